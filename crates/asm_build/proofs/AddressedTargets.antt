@@ -30,7 +30,7 @@ use Rattle.asm_build.specs.declared.address.Address.TheVariants.{Bundle, Byte}
 use Rattle.asm_build.specs.Addresses.{IsInside, IsReachable, addressed, reach}
 use Rattle.asm_build.proofs.UntargetedSlots.{fits_aimed}
 
--- a distance between bundles fits the field of a displacement
+-- A distance between bundles fits the field of a displacement.
 near : (m n : ℕ) → m < reach → n < reach → FitsSigned 21 (pos m -ℤ pos n)
 near m zero a b = omega (arith, a)
 near m (suc n) a b = elim (ltb m (suc n)) as (λ less. FitsSigned 21 (cond less (negsuc (suc n - suc m)) (pos (m - suc n)))) [ true ↦ omega (arith, a, b) | false ↦ omega (arith, a, b) ]
@@ -41,7 +41,7 @@ back m n = +ℤ_comm (pos n) (pos m -ℤ pos n) ∙ -ℤ-+ℤ_cancel (pos m) (po
 at_bundle : (count m n : ℕ) → m < count → IsBundleAt count n (pos m -ℤ pos n)
 at_bundle count m n h = (subst (λ z. pos 0 ≤ℤ z) (sym (back m n)) (record { le = le→leb 0 m (omega arith) }), subst (λ z. z <ℤ pos count) (sym (back m n)) (record { lt = lt→ltb m count h }))
 
--- a long move of another number
+-- A long move of another number.
 row_moved : (qp r1 imm other : ℕ) → AsRow rows (row_index_of (opcode_of (slot_op (op.Movl r1 imm)))) (record { qp = qp; op = slot_op (op.Movl r1 imm) })
     → AsRow rows (row_index_of (opcode_of (slot_op (op.Movl r1 other)))) (record { qp = qp; op = slot_op (op.Movl r1 other) })
 unfolding rows listed
@@ -80,7 +80,7 @@ pub fit_stays : (i : Insn) (a : Address) (n : ℕ) (u : ExecutionUnit) (slot : �
     → Fits i u slot → IfSome (addressed i.op a n) (λ y. Fits (record { qp = i.qp; op = y }) u slot)
 fit_stays i a n u slot h k f = fits_addressed i.qp i.op a n u slot h k f
 
--- what holds of an operation that there may be
+-- What holds of an operation that there may be.
 pub IfSome-weaken : {A : Type 0} (P Q : A → Type 0) (o : Option A) → ((y : A) → P y → Q y) → IfSome o P → IfSome o Q
 IfSome-weaken P Q None f p = tt
 IfSome-weaken P Q (Some y) f p = f y p

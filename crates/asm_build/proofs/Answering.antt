@@ -4,7 +4,7 @@ use Rattle.std.specs.Prelude.{IfOk, IfErr}
 use Rattle.asm_build.specs.declared.reason.TextError.{TextError}
 use Rattle.asm_build.specs.declared.reason.TextError.TheVariants as error
 
--- what a text reads as, and which fault it has
+-- What a text reads as, and which fault it has.
 abbrev pub IsOne : {T : Type 0} → (List ℕ → T → Type 0) → Type 0
 IsOne {T} Reads = (text : List ℕ) (p q : T) → Reads text p → Reads text q → p ≡ q
 

@@ -6,7 +6,7 @@ use Rattle.asm_build.specs.CanonicalText.{data_word, words_of}
 use Rattle.asm_build.specs.TextParts.{numbers_bytes}
 use Rattle.ia_program.specs.Programs.{AreBytes}
 
--- the bytes of a word, the lowest first
+-- The bytes of a word, the lowest first.
 word_bytes : (a b c d e f g h : ℕ) → a < 256 → b < 256 → c < 256 → d < 256 → e < 256 → f < 256 → g < 256 → h < 256
     → to_le_bytes w64 (data_word a b c d e f g h) ≡ a ∷ b ∷ c ∷ d ∷ e ∷ f ∷ g ∷ h ∷ []
 word_bytes a b c d e f g h la lb lc ld le lf lg lh =
@@ -33,7 +33,7 @@ abbrev pub AreWords : List ℕ → Type 0
 AreWords [] = Unit {0}
 AreWords (w ∷ ws) = (w < 2 ^ 64) × AreWords ws
 
--- the words of bytes are below 2^64
+-- The words of bytes are below 2^64.
 pub words_small : (bytes : List ℕ) → AreBytes bytes → AreWords (words_of bytes)
 words_small (a ∷ b ∷ c ∷ d ∷ e ∷ f ∷ g ∷ h ∷ rest) small = (word_below a b c d e f g h (small 0) (small 1) (small 2) (small 3) (small 4) (small 5) (small 6) (small 7), words_small rest (λ k. small (suc (suc (suc (suc (suc (suc (suc (suc k))))))))))
 words_small _ small = tt

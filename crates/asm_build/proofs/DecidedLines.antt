@@ -16,7 +16,7 @@ use Rattle.asm_build.specs.Drafts.{HasSome, IsShort, HasRoomIn, next_unit, count
 use Rattle.asm_build.specs.TextParts.{TextParts, IsIn, MayStand, IsNew, HasTemplate, FitsSlot, HasRoom, address_of, numbers_bytes, value_stages}
 use Rattle.asm_build.proofs.DecidedBundles.{fits, is_bundle}
 
--- a stage finds its fault or is passed, whatever the fault is
+-- A stage finds its fault or is passed, whatever the fault is.
 pub decided : {P : Type 0} → Dec P → (Unit {0} × ¬ P) ⊎ P
 decided (yes p) = inr p
 decided (no never) = inl (tt, never)

@@ -35,7 +35,7 @@ ends_run bundles place =
     (some_and (slice_get bundles place.bundle) (λ b. stop_after b.template b.slots place.slot))
     (some_and (insn_at bundles place) (λ i. both (ℕ_discrete i.qp 0) (leaving i.op)))
 
--- what comes after a place
+-- What comes after a place.
 next : (bundles : List Bundle) (place : Place) → IsPlaceOf bundles place → (after : Option Place) × Follows bundles place after
 next bundles place is =
     let l = lies_in bundles place is in
@@ -47,7 +47,7 @@ next bundles place is =
       ]
     ]
 
--- a place is the first past its run, or all are within theirs
+-- A place is the first past its run, or all are within theirs.
 abbrev pub HasLongRunOrNone : List Bundle → Type 0
 HasLongRunOrNone bundles = ((place : Place) × IsFirstBad bundles (IsWithinRun bundles) place) ⊎ EachPlace bundles (IsWithinRun bundles)
 

@@ -16,7 +16,7 @@ use Rattle.asm_build.specs.Relations.{related, relation_stages}
 use Rattle.asm_build.specs.TextParts.{TextParts, Labels, address_of}
 use Rattle.asm_build.specs.TextReading.{end_stages}
 
--- the fault is of a line, for a reason
+-- The fault is of a line, for a reason.
 abbrev pub IsOfLine : TextError → Type 0
 IsOfLine e = (line : ℕ) × (reason : Reason) × (e ≡ Fault line reason)
 
@@ -24,7 +24,7 @@ one_of : (first : Bool) (e f : TextError) → IsOfLine e → IsOfLine f → IsOf
 one_of true e f p q = p
 one_of false e f p q = q
 
--- of a declared entry, and of all
+-- Of a declared entry, and of all.
 within : (over : Bool) (line : ℕ) (entries : List ℕ) → IfErr (if over then Err (Fault line Limit) else Ok entries) IsOfLine
 within true line entries = (line, Limit, refl)
 within false line entries = tt
@@ -44,7 +44,7 @@ of_entries labels entries (e ∷ es) =
     of_next (declared_by (bundle_at (address_of labels e.name)) e.line entries) (λ more. all_declared labels more es)
     (of_entry (bundle_at (address_of labels e.name)) e.line entries) (λ more. of_entries labels more es)
 
--- of the earlier of two
+-- Of the earlier of two.
 of_earlier : (line : ℕ) (e : TextError) → IsOfLine e → IsOfLine (earlier_of (no_label line) e)
 of_earlier line (Fault other why) is = one_of (nat_lt other line) (Fault other why) (Fault line NoLabel) is (line, NoLabel, refl)
 of_earlier line Memory is = (line, NoLabel, refl)
@@ -58,7 +58,7 @@ of_names (Some line) (Err e) is = of_earlier line e is
 name_of_line : (s : TextParts) → IfSome (name_fault s) IsOfLine
 name_of_line s = of_names (unnamed_bundle s.labels 0 s.bundles) (all_declared s.labels [] s.entries) (of_entries s.labels [] s.entries)
 
--- of relations
+-- Of relations.
 pub of_relations : (IsEntry : ℕ → Type 0) (before : List Relation) (lines : List RelationLine) (e : TextError) → IsFirstFault (relation_stages IsEntry before lines) e → IsOfLine e
 of_relations IsEntry before [] e never = absurd never
 of_relations IsEntry before (l ∷ ls) e (inl (key, is, other)) = (l.line, reason.Relation, is)

@@ -62,13 +62,13 @@ one_declared count line (Some (address.Byte at)) entries h good = tt
 same_good : (count : ℕ) (entries out : List ℕ) (r : Result (List ℕ) TextError) → r ≡ Ok entries → AreGood count entries → r ≡ Ok out → AreGood count out
 same_good count entries out r is good e = let same : entries ≡ out = cc in subst (AreGood count) same good
 
--- a result that is good, and goes on to one that is
+-- A result that is good, and goes on to one that is.
 then_good : (count : ℕ) (out : List ℕ) (r : Result (List ℕ) TextError) (next : List ℕ → Result (List ℕ) TextError) → IfOk r (AreGood count)
     → ((more : List ℕ) → AreGood count more → next more ≡ Ok out → AreGood count out) → and_then r next ≡ Ok out → AreGood count out
 then_good count out (Ok more) next good go e = go more good e
 then_good count out (Err why) next good go e = cc
 
--- those that lines name are good
+-- Those that lines name are good.
 pub declared_good : (labels : Labels) (count : ℕ) (entries out : List ℕ) (lines : List EntryLine) → AllByRecursion (IsInside count) (values_of labels)
     → AreGood count entries → all_declared labels entries lines ≡ Ok out → AreGood count out
 declared_good labels count entries out [] inside good e = same_good count entries out (Ok entries) refl good e
@@ -89,7 +89,7 @@ places_rise count low (m ∷ ns) rise zero h = (rise.0, rise.1)
 places_rise count low (m ∷ ns) rise (suc zero) h = places_rise count m ns rise.2 0 (omega arith)
 places_rise count low (m ∷ ns) rise (suc (suc n)) h = places_rise count m ns rise.2 (suc n) (omega arith)
 
--- entries that rise are entries of a program
+-- Entries that rise are entries of a program.
 pub entries_of_rising : (count : ℕ) (ns : List ℕ) → RiseFrom 0 count ns → AreEntries count ns
 unfolding floor_from
 entries_of_rising count ns rise zero h = let p = places_rise count 0 ns rise zero h in record { rises = p.0; inside = p.1 }

@@ -16,12 +16,12 @@ use Rattle.asm_build.specs.TextParts.{Labels, address_of}
 use Rattle.asm_build.proofs.KeysBelow.{below, with_key, KeysFrom, next_below}
 use Rattle.asm_build.proofs.SortedSets.{Ways, IsOrderedBy, at_end}
 
--- each is at least the floor, and above the one before it
+-- Each is at least the floor, and above the one before it.
 abbrev pub Rise : ℕ → List ℕ → Type 0
 Rise low [] = Unit {0}
 Rise low (x ∷ xs) = (low ≤ x) × Rise (x + 1) xs
 
--- what the n-th is above
+-- What the n-th is above.
 abbrev above_what : ℕ → List ℕ → ℕ → ℕ
 above_what low xs zero = low
 above_what low xs (suc n) = slice_index xs n
@@ -36,7 +36,7 @@ rise_from low (x ∷ xs) h =
     after zero h = h
     after (suc n) h = h
 
--- the entries of a program rise
+-- The entries of a program rise.
 pub entries_rise : (count : ℕ) (xs : List ℕ) → AreEntries count xs → Rise 1 xs
 entries_rise count xs h = rise_from 0 xs (λ n less. at n (h n less))
   where
@@ -44,7 +44,7 @@ entries_rise count xs h = rise_from 0 xs (λ n less. at n (h n less))
     at zero e = e.rises
     at (suc n) e = e.rises
 
--- the entries before the n-th bundle
+-- The entries before the n-th bundle.
 abbrev pub entries_below : ℕ → List ℕ → List ℕ
 entries_below n xs = below (λ m. m) n xs
 
@@ -63,16 +63,16 @@ equal_once low n (x ∷ xs) r = elim (cases_eq x n) [
   | inr other ↦ rw (ne_eqb x n other) (equal_once (x + 1) n xs r.1)
 ]
 
--- one bundle more
+-- One bundle more.
 pub one_below : (low n : ℕ) (xs : List ℕ) → Rise low xs → entries_below (n + 1) xs ≡ entries_below n xs ++ (if is_among xs n then n ∷ [] else [])
 one_below low n xs r = next_below (λ m. m) n low xs (never_fall low low xs (omega arith) r) ∙ ap (λ ys. entries_below n xs ++ ys) (equal_once low n xs r)
 
--- all of them, one by one
+-- All of them, one by one.
 pub each_below : (n : ℕ) (xs : List ℕ) → ((k : ℕ) → k < length xs → slice_index xs k < n) → AllByRecursion (λ m. m < n) xs
 each_below n [] h = tt
 each_below n (x ∷ xs) h = (h 0 (omega arith), each_below n xs (λ k less. h (suc k) (omega (arith, less))))
 
--- numbers are compared by their order
+-- Numbers are compared by their order.
 three_ways : (k n : ℕ) → Ways nat_cmp (λ i j. i < j) k n
 three_ways k n = elim (cases_order k n) [
   | inl same ↦ inr (inl (sym (nat_cmp_is k n Equal same), same))

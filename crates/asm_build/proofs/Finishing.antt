@@ -44,7 +44,7 @@ length_named labels n (b ∷ bs) = ap suc (length_named labels (n + 1) bs)
 pub padded_length : (k : ℕ) → k ≤ DATA_LIMIT → (k + (8 - k % 8) % 8 ≤ DATA_LIMIT) × ((k + (8 - k % 8) % 8) % 8 ≡ 0)
 padded_length k h = (omega (arith, h), omega arith)
 
--- names: none is without its label, and the entries are those that lines name
+-- Names: none is without its label, and the entries are those that lines name.
 pub no_fault_named : (u : Option ℕ) (r : Result (List ℕ) TextError) → earlier u r ≡ None → (u ≡ None) × (r ≡ Ok (or_none r))
 no_fault_named None (Ok entries) e = (refl, refl)
 no_fault_named None (Err f) e = cc
@@ -56,7 +56,7 @@ entries_good s inside none =
     let named = no_fault_named (unnamed_bundle s.labels 0 s.bundles) (all_declared s.labels [] s.entries) none in
     declared_good s.labels (length s.bundles) [] (program_of s).entries s.entries inside (tt, omega arith) named.1
 
--- lines that declare relations have no fault
+-- Lines that declare relations have no fault.
 abbrev pub AreRelated : TextParts → Type 0
 AreRelated s = ArePassed (relation_stages (IsEntryOf (program_of s).bundles (program_of s).entries) [] s.relations)
 
@@ -88,7 +88,7 @@ no_target : (count n : ℕ) (o : Option ℤ) → is_some o ≡ false → IfSome 
 no_target count n None h = tt
 no_target count n (Some z) h = cc
 
--- of an operation whose name means something
+-- Of an operation whose name means something.
 plain_inside : (count n : ℕ) (x : Op) (b : Bool) → is_some (displacement x) ≡ b → is_some (if b then None else Some x) ≡ true
     → HasTargetInside count n (unwrap_or (if b then None else Some x) x)
 plain_inside count n x true h named = cc
@@ -109,7 +109,7 @@ named_inside labels count n x None all is = plain_inside count n x (is_some (dis
 named_inside labels count n x (Some name) all is =
     addressed_inside count n x (address_of labels name) (label_within (IsInside count) labels name all) is
 
--- each slot of a bundle, with the address of its name, has its target inside
+-- Each slot of a bundle, with the address of its name, has its target inside.
 abbrev AreTargetsInside : ℕ → ℕ → Slots → Type 0
 AreTargetsInside count n (Three i j k) = HasTargetInside count n i.op × HasTargetInside count n j.op × HasTargetInside count n k.op
 AreTargetsInside count n (Long i j) = HasTargetInside count n i.op × HasTargetInside count n j.op
@@ -164,7 +164,7 @@ at_place : (count n slot : ℕ) (o : Option Bundle) → IfSome o (λ b. AreTarge
 at_place count n slot None h = tt
 at_place count n slot (Some b) h = at_slot count n b.slots slot h
 
--- the target of each place is a bundle of the program
+-- The target of each place is a bundle of the program.
 pub targets_are : (s : TextParts) → AreLabelsInside s → name_fault s ≡ None → EachPlace (program_of s).bundles (IsTargetInside (program_of s).bundles)
 unfolding insn_at
 targets_are s inside none place is =
@@ -172,7 +172,7 @@ targets_are s inside none place is =
     rw (length_named s.labels 0 s.bundles)
     (at_place (length s.bundles) place.bundle place.slot (slice_get (program_of s).bundles place.bundle) (bundles_inside s.labels (length s.bundles) 0 s.bundles inside named.0 place.bundle place.bundle (omega arith)))
 
--- lines have none where they have none among the program's bundles and entries
+-- Lines have none where they have none among the program's bundles and entries.
 pub related_of : (s : TextParts) (bundles : List Bundle) (entries : List ℕ) (lines : List RelationLine) → bundles ≡ (program_of s).bundles → entries ≡ (program_of s).entries → lines ≡ s.relations
     → ArePassed (relation_stages (IsEntryOf bundles entries) [] lines) → AreRelated s
 related_of s bundles entries lines bs es ls passed =

@@ -4,15 +4,15 @@ use Rattle.std.specs.Prelude.{nat_lt, filter}
 use Rattle.std.specs.List.{AllByRecursion}
 use Rattle.std.proofs.lemmas.Bool.{cases_order, cases_lt, eq-eqb, ne_eqb, lt-ltb, le-ltb}
 
--- those with a key below the number
+-- Those with a key below the number.
 abbrev pub below : {X : Type 0} → (X → ℕ) → ℕ → List X → List X
 below key n xs = filter (λ x. nat_lt (key x) n) xs
 
--- those with this key
+-- Those with this key.
 abbrev pub with_key : {X : Type 0} → (X → ℕ) → ℕ → List X → List X
 with_key key n xs = filter (λ x. key x == n) xs
 
--- the keys don't fall, from one on
+-- The keys don't fall, from one on.
 abbrev pub KeysFrom : {X : Type 0} → (X → ℕ) → ℕ → List X → Type 0
 KeysFrom key low [] = Unit {0}
 KeysFrom key low (x ∷ xs) = (low ≤ key x) × KeysFrom key (key x) xs
@@ -21,7 +21,7 @@ none_below : {X : Type 0} (key : X → ℕ) (n low : ℕ) (xs : List X) → n �
 none_below key n low [] h from = refl
 none_below key n low (x ∷ xs) h from = rw (le-ltb (key x) n (omega (arith, h, from.0))) (none_below key n (key x) xs (omega (arith, h, from.0)) from.1)
 
--- those with the number as their key come first, where none is below it
+-- Those with the number as their key come first, where none is below it.
 first_ones : {X : Type 0} (key : X → ℕ) (n low : ℕ) (xs : List X) → n ≤ low → KeysFrom key low xs → below key (n + 1) xs ≡ with_key key n xs
 first_ones key n low [] h from = refl
 first_ones key n low (x ∷ xs) h from = elim (cases_order (key x) n) [
@@ -30,7 +30,7 @@ first_ones key n low (x ∷ xs) h from = elim (cases_order (key x) n) [
   | inr (inr more) ↦ rw (le-ltb (key x) (n + 1) (omega (arith, more)), ne_eqb (key x) n (λ e. omega (arith, more, e))) (first_ones key n (key x) xs (omega (arith, h, from.0)) from.1)
 ]
 
--- one number more
+-- One number more.
 pub next_below : {X : Type 0} (key : X → ℕ) (n low : ℕ) (xs : List X) → KeysFrom key low xs → below key (n + 1) xs ≡ below key n xs ++ with_key key n xs
 next_below key n low [] from = refl
 next_below key n low (x ∷ xs) from = elim (cases_lt (key x) n) [
@@ -42,12 +42,12 @@ next_below key n low (x ∷ xs) from = elim (cases_lt (key x) n) [
       first_ones key n n (x ∷ xs) (omega arith) (most, from.1) ∙ ap (λ ys. ys ++ with_key key n (x ∷ xs)) (sym none)
 ]
 
--- none of them is below 0
+-- None of them is below 0.
 pub none_below_zero : {X : Type 0} (key : X → ℕ) (xs : List X) → below key 0 xs ≡ []
 none_below_zero key [] = refl
 none_below_zero key (x ∷ xs) = rw (le-ltb (key x) 0 (omega arith)) (none_below_zero key xs)
 
--- all of them are
+-- All of them are.
 pub all_below : {X : Type 0} (key : X → ℕ) (n : ℕ) (xs : List X) → AllByRecursion (λ x. key x < n) xs → below key n xs ≡ xs
 all_below key n [] h = refl
 all_below key n (x ∷ xs) h = rw (lt-ltb (key x) n h.0) (ap (λ ys. x ∷ ys) (all_below key n xs h.1))

@@ -19,7 +19,7 @@ use Rattle.asm_build.specs.TextParts.{Labels, address_of}
 use Rattle.asm_build.proofs.LabelValues.{kept_among}
 use Rattle.asm_build.proofs.PutIn.{put_here, put_elsewhere}
 
--- the labels of two bundles differ
+-- The labels of two bundles differ.
 differ : (m n : ℕ) → m < 2 ^ 32 → n < 2 ^ 32 → m ≢ n → is_eq (slice_cmp nat_cmp (label_text m) (label_text n)) ≡ false
 differ m n a b other = by (slice_cmp nat_cmp (label_text m) (label_text n)) refl
   where
@@ -34,7 +34,7 @@ pub record HasLabels (entries targets : List ℕ) (count n : ℕ) (labels : Labe
   pub later : (m : ℕ) → n ≤ m → m < 2 ^ 32 → address_of labels (label_text m) ≡ None
   pub inside : AllByRecursion (IsInside count) (values_of labels)
 
--- none at first
+-- None at first.
 pub no_labels : (entries targets : List ℕ) (count : ℕ) → HasLabels entries targets count 0 []
 no_labels entries targets count = record {
   named = λ m less is. absurd (omega (arith, less));
@@ -42,7 +42,7 @@ no_labels entries targets count = record {
   inside = tt;
 }
 
--- the label of the n-th bundle
+-- The label of the n-th bundle.
 pub one_label : (entries targets : List ℕ) (count n : ℕ) (labels : Labels) → n < count → count ≤ BUNDLE_LIMIT → HasLabels entries targets count n labels
     → HasLabels entries targets count (n + 1) (insert_entry (slice_cmp nat_cmp) labels (label_text n) (Bundle n))
 one_label entries targets count n labels less few h = record {
@@ -58,7 +58,7 @@ one_label entries targets count n labels less few h = record {
     at m (inr before) is =
         put_elsewhere (slice_cmp nat_cmp) nat_list_cmp_total labels (label_text n) (Bundle n) (label_text m) (differ m n (omega (arith, before, less, few)) (omega (arith, less, few)) (λ e. omega (arith, e, before))) ∙ h.named m before is
 
--- a bundle without a label
+-- A bundle without a label.
 pub same_labels : (entries targets : List ℕ) (count n : ℕ) (labels : Labels) → (is_among entries n || is_among targets n) ≡ false → HasLabels entries targets count n labels → HasLabels entries targets count (n + 1) labels
 same_labels entries targets count n labels other h = record {
   named = λ m before is. at m (last_or_below m n (omega (arith, before))) is;

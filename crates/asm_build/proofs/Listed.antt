@@ -29,12 +29,12 @@ all_listed bundles n old out h so =
     let whole = so [] rest in
     rw (append-nil out) at whole
 
--- where a bundle is left, so are its sixteen bytes
+-- Where a bundle is left, so are its sixteen bytes.
 pub bytes_left : (bundles : List Bundle) (n : ℕ) (rest : List ℕ) → n < length bundles → AreSpelled (drop n bundles) rest → 16 ≤ length rest
 bytes_left bundles n rest h spelled =
     omega (arith, h, spelled_length (drop n bundles) rest spelled, length-drop n bundles)
 
--- the first sixteen are those of the n-th bundle, and the others those of the others
+-- The first sixteen are those of the n-th bundle, and the others those of the others.
 pub next_spelled : (bundles : List Bundle) (n : ℕ) (b : Bundle) (rest : List ℕ) → n < length bundles → b ≡ get_or bundles n b
     → AreSpelled (drop n bundles) rest → IsSpelled b (take 16 rest) × AreSpelled (drop (n + 1) bundles) (drop 16 rest)
 next_spelled bundles n b rest h is spelled =

@@ -64,7 +64,7 @@ pub among_to : (xs : List ℕ) (n : ℕ) → is_among xs n ≡ true → Contains
 among_to [] n h = absurd cc
 among_to (x ∷ xs) n h = contains_here xs n x (x == n) refl (among_to xs n) h
 
--- a test that tells whether a list contains a number
+-- A test that tells whether a list contains a number.
 pub same_test : (r : Bool) (xs : List ℕ) (n : ℕ) → (IsTrue r ↔ Contains xs n) → r ≡ is_among xs n
 same_test true xs n h = sym (among_from xs n (h.0 refl))
 same_test false xs n h = of (is_among xs n) refl
@@ -73,7 +73,7 @@ same_test false xs n h = of (is_among xs n) refl
     of true e = h.1 (among_to xs n e) ∙ sym e
     of false e = sym e
 
--- the targets of a bundle's slots, one after the other
+-- The targets of a bundle's slots, one after the other.
 pub three_marked : (n : ℕ) (slots : Slots) (a b c : Insn) (m o p q : List Bool) → slots ≡ Three a b c → Marked m o (listed_once (target_of n a.op)) → Marked o p (listed_once (target_of n b.op)) → Marked p q (listed_once (target_of n c.op))
     → Marked m q (bundle_targets n slots)
 three_marked n slots a b c m o p q is f g h =
@@ -97,14 +97,14 @@ next_targets bs at b less is =
     let count : length (take at bs) ≡ at = grind (arith, common_steps) in
     ap (targets_from 0) before ∙ targets_of_both 0 (take at bs) (b ∷ []) ∙ rw (count, zero-add at) (ap (λ x. targets_from 0 (take at bs) ++ x) (append-nil (bundle_targets at b.slots)))
 
--- one bundle more
+-- One bundle more.
 pub next_bundle : (count : ℕ) (bs : List Bundle) (at : ℕ) (bundle : Bundle) (slots : Slots) (a b : List Bool) → at < length bs → bundle ≡ get_or bs at bundle → slots ≡ bundle.slots → AreMarks count (targets_from 0 (take at bs)) a
     → Marked a b (bundle_targets at slots) → AreMarks count (targets_from 0 (take (at + 1) bs)) b
 next_bundle count bs at bundle slots a b less is same g h =
     let marked : Marked a b (bundle_targets at bundle.slots) = subst (λ s. Marked a b (bundle_targets at s)) same h in
     rw (next_targets bs at bundle less is) (more_marks count (targets_from 0 (take at bs)) (bundle_targets at bundle.slots) a b g marked)
 
--- the texts of bundles by marks and by the lists that they mark
+-- The texts of bundles by marks and by the lists that they mark.
 pub texts_alike : (count : ℕ) (entries targets : List ℕ) (relations : List Relation) (entry_marks target_marks : List Bool) (n : ℕ) (bs : List Bundle) → AreMarks count entries entry_marks → AreMarks count targets target_marks
     → n + length bs ≡ count → marked_texts entry_marks target_marks relations n bs ≡ bundles_text entries targets relations n bs
 texts_alike count entries targets relations em tm n [] e t h = refl

@@ -18,7 +18,7 @@ use Rattle.asm_build.specs.Drafts.{IsShort}
 use Rattle.asm_build.specs.TemplateNames.{units_named, marked_slots, is_shaped, below, template_of}
 use Rattle.asm_build.proofs.Marking.{among_from, among_to, same_test}
 
--- units are those of their letters
+-- Units are those of their letters.
 abbrev lettered : ℕ → ExecutionUnit
 lettered n = if n == 109 then M else if n == 105 then I else if n == 102 then F else if n == 98 then B else if n == 108 then L else X
 
@@ -37,13 +37,13 @@ all_back (u ∷ us) = rw (one_back u, all_back us) refl
 letters_tell : (us vs : List ExecutionUnit) → map unit_letter us ≡ map unit_letter vs → us ≡ vs
 letters_tell us vs e = sym (all_back us) ∙ ap (map lettered) e ∙ all_back vs
 
--- what the test of a template says
+-- What the test of a template says.
 shape_test : (units : List ExecutionUnit) (stops : List ℕ) (code : ℕ) → Decides (is_shaped units stops code) ((units_of code ≡ units) × (stops_of code ≡ stops))
 shape_test units stops code =
     let letters = bytes_eq-Decides (map unit_letter (units_of code)) (map unit_letter units) in
     Decides-and _ _ (λ h. letters_tell (units_of code) units (letters.0 h), λ e. letters.1 (ap (map unit_letter) e)) (bytes_eq-Decides (stops_of code) stops)
 
--- what is found below a number
+-- What is found below a number.
 abbrev IsFoundBelow : (ℕ → Bool) → ℕ → Option ℕ → Type 0
 IsFoundBelow p n found = MatchOption found ((code : ℕ) → code < n → p code ≡ true → ⊥) (λ code. p code ≡ true)
 
@@ -56,7 +56,7 @@ found_below : (p : ℕ → Bool) (n : ℕ) → IsFoundBelow p n (find p (below n
 found_below p zero = λ code less passes. omega arith
 found_below p (suc n) = one_more p n (find p (below n)) (p n) refl (found_below p n)
 
--- a code with the units of a name is that of a template
+-- A code with the units of a name is that of a template.
 no_units : (s : TemplateName) → [] ≡ units_named s → ⊥
 no_units template_name.Mlx e = cc
 no_units s e = cc
@@ -91,7 +91,7 @@ the_template : (s : TemplateName) (a b c : Bool) → IsTheTemplate s a b c (temp
 unfolding template_of
 the_template s a b c = found_template s a b c _ (found_below (is_shaped (units_named s) (marked_slots a b c)) 32)
 
--- there is one template, or none
+-- There is one template, or none.
 same_template : (s : TemplateName) (a b c : Bool) (o q : Option ℕ) → IsTheTemplate s a b c o → IsTheTemplate s a b c q → o ≡ q
 same_template s a b c None None h k = refl
 same_template s a b c None (Some y) h k = absurd (h y k)
@@ -105,12 +105,12 @@ template_is s a b c code h = same_template s a b c (template_of s a b c) (Some c
 pub units_are : (s : TemplateName) (a b c : Bool) (code : ℕ) → template_of s a b c ≡ Some code → units_of code ≡ units_named s
 units_are s a b c code e = let has : IsTheTemplate s a b c (Some code) = subst (IsTheTemplate s a b c) e (the_template s a b c) in has.units
 
--- the template of a long instruction has no stop before its last slot
+-- The template of a long instruction has no stop before its last slot.
 abbrev pub HasLongStops : TemplateName → Bool → Bool → Type 0
 HasLongStops template_name.Mlx first second = (first ≡ false) × (second ≡ false)
 HasLongStops s first second = Unit {0}
 
--- what two codes share has a name
+-- What two codes share has a name.
 record HasNameAs (t : Shape) : Type 0 where
   pub name : TemplateName
   pub first : Bool
@@ -160,7 +160,7 @@ marked_at false true false = (refl, refl, refl)
 marked_at false false true = (refl, refl, refl)
 marked_at false false false = (refl, refl, refl)
 
--- a template has a stop after the slots that are marked
+-- A template has a stop after the slots that are marked.
 record HasStops (a b c : Bool) (code : ℕ) : Type 0 where
   pub first : has_stop code 0 ≡ a
   pub second : has_stop code 1 ≡ b
@@ -171,7 +171,7 @@ has_stops a b c code e =
     let at = marked_at a b c in
     record { first = ap (λ xs. is_among xs 0) e ∙ at.0; second = ap (λ xs. is_among xs 1) e ∙ at.1; third = ap (λ xs. is_among xs 2) e ∙ at.2 }
 
--- the code is that of the template with this name and its stops
+-- The code is that of the template with this name and its stops.
 pub record IsNamedBy (s : TemplateName) (code : ℕ) : Type 0 where
   pub units : units_of code ≡ units_named s
   pub stops : stops_of code ≡ marked_slots (has_stop code 0) (has_stop code 1) (has_stop code 2)
@@ -188,7 +188,7 @@ template_named code is =
     let has = has_stops named.first named.second last code stops in
     (named.name, record { units = named.units; stops = stops ∙ rw (has.first, has.second, has.third) refl; long = rw (has.first, has.second) named.long })
 
--- what fits the units of a code fits those of a template
+-- What fits the units of a code fits those of a template.
 some_fit : (o : Option Shape) (slots : Slots) → FitUnits (unwrap_or o no_shape).units slots → is_some o ≡ true
 some_fit None slots fit = absurd fit
 some_fit (Some t) slots fit = refl
@@ -212,7 +212,7 @@ has_shape s a b c code is =
     let has = has_stops a b c code is.stops in
     record { same = is.units; first = stops_as code 0 a has.first; second = stops_as code 1 b has.second; third = stops_as code 2 c has.third }
 
--- what has the shape of a name and marks is the template of the name and these stops
+-- What has the shape of a name and marks is the template of the name and these stops.
 pub template_found : (s : TemplateName) (a b c : Bool) (found : Option ℕ) → MatchOption found ((code : ℕ) → IsTemplate code → HasShape code (units_named s) (a ∷ b ∷ c ∷ []) → ⊥) (λ code. HasShape code (units_named s) (a ∷ b ∷ c ∷ []))
     → found ≡ template_of s a b c
 template_found s a b c None h =
@@ -222,7 +222,7 @@ template_found s a b c (Some code) h =
     let stops : stops_of code ≡ marked_slots a b c = named.1.stops ∙ rw (stop_test code 0 a h.first, stop_test code 1 b h.second, stop_test code 2 c h.third) refl in
     sym (template_is s a b c code (record { units = h.same; stops = stops }))
 
--- a template whose second unit isn't L is short
+-- A template whose second unit isn't L is short.
 pub short_of : (s : TemplateName) (u v w : ExecutionUnit) → units_named s ≡ u ∷ v ∷ w ∷ [] → v ≢ L → IsShort s
 short_of template_name.Mlx u v w e other = absurd (other (sym (ap (λ us. slice_index_or us 1 L) e)))
 short_of s u v w e other = tt

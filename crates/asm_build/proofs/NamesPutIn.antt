@@ -27,7 +27,7 @@ use Rattle.asm_build.proofs.UntargetedSlots.{until_named}
 use Rattle.asm_build.proofs.WrittenBundles.{name_in, slots_until, HasNames, AreLinesOf}
 use Rattle.asm_build.proofs.WrittenTexts.{AreAllLinesOf, AreGood}
 
--- the bundles of these numbers are what their labels name
+-- The bundles of these numbers are what their labels name.
 abbrev pub AreLabelled : Labels → ℕ → List ℕ → Type 0
 AreLabelled labels count ns = (m : ℕ) → m < count → is_among ns m ≡ true → address_of labels (label_text m) ≡ Some (address.Bundle m)
 
@@ -37,7 +37,7 @@ first_labelled labels count xs ys h m less is = h m less (list_any-append (λ k.
 second_labelled : (labels : Labels) (count : ℕ) (xs ys : List ℕ) → AreLabelled labels count (xs ++ ys) → AreLabelled labels count ys
 second_labelled labels count xs ys h m less is = h m less (list_any-append (λ k. k == m) xs ys ∙ or_right (is_among xs m) (is_among ys m) is)
 
--- the bundle of a target by its number
+-- The bundle of a target by its number.
 natural_is : (z : ℤ) → pos 0 ≤ℤ z → pos (natural_of z) ≡ z
 natural_is (pos n) h = refl
 natural_is (negsuc n) h = absurd h.le
@@ -56,7 +56,7 @@ found_target labels count n disp inside h =
     let m = natural_of (pos n +ℤ disp) in
     h m (natural_below (pos n +ℤ disp) count inside.0 inside.1) (or_left (m == m) false (eq-eqb m m refl))
 
--- the operation with its displacement again
+-- The operation with its displacement again.
 operation_back : (labels : Labels) (count n : ℕ) (x : Op) → IfSome (displacement x) (IsBundleAt count n) → AreLabelled labels count (listed_once (target_of n x))
     → named labels n (untargeted x) (option_map label_text (target_of n x)) ≡ Some x
 operation_back labels count n (op.ChkS unit r2 disp) inside h =
@@ -69,7 +69,7 @@ operation_back labels count n (op.BrCall b1 wh many clr disp) inside h =
     ap (λ o. addressed_by o (op.BrCall b1 wh many clr (pos 0)) n) (found_target labels count n disp inside h) ∙ ap (λ d. Some (op.BrCall b1 wh many clr d)) (distance_back n count disp inside)
 operation_back labels count n x inside h = refl
 
--- what a slot's name gives
+-- What a slot's name gives.
 slot_back : (labels : Labels) (count n : ℕ) (i : Insn) (name : SlotName) → IsSound count n i → name.target ≡ name_in n i → AreLabelled labels count (listed_once (target_of n i.op))
     → named labels n (untargeted i.op) name.target ≡ Some i.op
 slot_back labels count n i name sound e h = ap (named labels n (untargeted i.op)) e ∙ operation_back labels count n i.op sound.target h
@@ -80,7 +80,7 @@ insn_back labels n i name e = ap (λ o. record { qp = i.qp; op = unwrap_or o (un
 is_back : (labels : Labels) (n : ℕ) (i : Insn) (name : SlotName) → named labels n (untargeted i.op) name.target ≡ Some i.op → is_named labels n (until_named i, name) ≡ true
 is_back labels n i name e = ap is_some e
 
--- the slots of a bundle are given back, and each name means what fits
+-- The slots of a bundle are given back, and each name means what fits.
 record SlotsBack (labels : Labels) (n : ℕ) (contents : Slots) (l : BundleLines) : Type 0 where
   pub same : slots_named labels n (slots_until contents) l ≡ contents
   pub all : find (λ s. not (is_named labels n s)) (slot_names (slots_until contents) l) ≡ None
@@ -109,7 +109,7 @@ slots_back labels count n (slots.Long a b) l sound names h =
       all = rw (is_back labels n a l.first x, is_back labels n b l.second y) refl;
     }
 
--- a bundle is given back
+-- A bundle is given back.
 bundle_back : (labels : Labels) (count n : ℕ) (b : Bundle) (l : BundleLines) → AreSound count n b.slots → AreLinesOf n b l → AreLabelled labels count (bundle_targets n b.slots) → bundle_named labels n l ≡ b
 bundle_back labels count n b l sound is h =
     let back = slots_back labels count n b.slots l sound is.names h in

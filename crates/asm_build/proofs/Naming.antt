@@ -21,7 +21,7 @@ use Rattle.asm_build.specs.TextParts.{Labels, address_of}
 use Rattle.asm_build.proofs.AddressedTargets.{fit_stays}
 use Rattle.asm_build.proofs.LabelValues.{label_within}
 
--- the addresses of the labels are those of a program
+-- The addresses of the labels are those of a program.
 abbrev pub AreFoundReachable : Labels → Type 0
 AreFoundReachable labels = AllByRecursion IsReachable (values_of labels)
 
@@ -48,7 +48,7 @@ fits_put_in : (labels : Labels) (n : ℕ) (i : Insn) (name : SlotName) (u : Exec
 fits_put_in labels n i name u slot within k f =
     or_same i u slot (named labels n i.op name.target) f (fits_target labels n i name.target u slot within k f)
 
--- the slots of a bundle fit its units as before
+-- The slots of a bundle fit its units as before.
 pub fit_named : (labels : Labels) (n : ℕ) (units : List ExecutionUnit) (slots : Slots) (b : BundleLines) → AreFoundReachable labels → n < reach
     → FitUnits units slots → FitUnits units (slots_named labels n slots b)
 fit_named labels n (u ∷ v ∷ w ∷ []) (Three i j k) b within few f = (
@@ -61,7 +61,7 @@ fit_named labels n (u ∷ v ∷ w ∷ []) (Long i j) b within few f =
     (fits_put_in labels n i b.first u 0 within few f.0, fits_put_in labels n j b.second v 1 within few f.1, f.2)
 fit_named labels n _ slots b within few f = absurd f
 
--- bundles and one more
+-- Bundles and one more.
 pub one_more_fits : (bs : List Bundle) (b : Bundle) → AreBundles bs → IsBundle b → AreBundles (bs ++ b ∷ [])
 one_more_fits [] b all is zero = is
 one_more_fits [] b all is (suc n) = tt
@@ -72,7 +72,7 @@ not_true : (b : Bool) → not b ≡ true → b ≡ false
 not_true true h = sym h
 not_true false h = refl
 
--- an instruction without a name that needs none
+-- An instruction without a name that needs none.
 named_same : (labels : Labels) (n : ℕ) (x : Op) (target : Option (List ℕ)) → (not (is_some target) && not (is_some (displacement x))) ≡ true → named labels n x target ≡ Some x
 named_same labels n x None h = let none : is_some (displacement x) ≡ false = not_true _ h in rw none refl
 named_same labels n x (Some name) h = cc
@@ -95,7 +95,7 @@ all_named labels n (Three i j k) b h =
     rw (is_same labels n i b.first (left _ _ h), is_same labels n j b.second (left _ _ more), is_same labels n k b.third (right (stays j b.second) _ more)) refl
 all_named labels n (Long i j) b h = rw (is_same labels n i b.first (left _ _ h), is_same labels n j b.second (right (stays i b.first) _ h)) refl
 
--- a bundle whose instructions have no names and need none stays as it is
+-- A bundle whose instructions have no names and need none stays as it is.
 pub bundle_same : (labels : Labels) (n : ℕ) (b : BundleLines) → all_stay b.bundle.slots b ≡ true → (b.bundle ≡ bundle_named labels n b) × (unnamed_slot labels n b ≡ None)
 bundle_same labels n b h =
     let with_slots : Slots → Bundle = λ slots. record { template = b.bundle.template; slots = slots } in

@@ -4,7 +4,7 @@ use Rattle.std.specs.Int.{w64, to_le_bytes}
 use Rattle.std.proofs.lemmas.List.{length-append, length-take-le, take_min}
 use Rattle.asm_build.specs.TextParts.{numbers_bytes}
 
--- of a number's eight bytes no more than eight are taken
+-- Of a number's eight bytes no more than eight are taken.
 pub most_bytes : (size : ℕ) (v : ℕ) → take (min size 8) (to_le_bytes w64 v) ≡ take size (to_le_bytes w64 v)
 most_bytes size v = take_min size (to_le_bytes w64 v)
 
@@ -17,7 +17,7 @@ length_numbers size [] h = omega arith
 length_numbers size (v ∷ vs) h =
     omega (arith, length-append (take size (to_le_bytes w64 v)) (numbers_bytes size vs), length-take-le size (to_le_bytes w64 v) h, length_numbers size vs h)
 
--- a part of a list is no longer than it
+-- A part of a list is no longer than it.
 pub shorter : (front rest before more : List ℕ) → front ++ rest ≡ before ++ more → length front ≤ length before + length more
 shorter front rest before more same =
     omega (arith, length-append front rest, length-append before more, ap length same)

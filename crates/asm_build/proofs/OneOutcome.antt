@@ -31,7 +31,7 @@ end_sound count s = (
 sound : IsSoundReading program_reading
 sound = record { stages = value_sound; ends = end_sound }
 
--- the three laws
+-- The three laws.
 pub one_program : HaveOneAnswer → OneTextProgram
 one_program one text p q a b =
     a.program ∙ ap program_of (one_state one program_reading sound text a.parts b.parts a.lines b.lines) ∙ sym b.program

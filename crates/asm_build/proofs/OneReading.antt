@@ -13,18 +13,18 @@ use Rattle.asm_build.specs.Reasons.{reason_of}
 use Rattle.asm_build.specs.Relations.{related, relation_stages}
 use Rattle.asm_build.specs.TextReading.{text_lines, Says, SaysNothing, LineReading, IsRefusedBy, IsTakenBy, ComesToBy, AllSayBy, HasFaultBy, found, first_of}
 
--- what is known of each line: it has one value or one fault, and not both
+-- What is known of each line: it has one value or one fault, and not both.
 pub record HaveOneAnswer : Type 0 where
   pub value : (bytes : List ℕ) → HasOneValue bytes
   pub fault : (bytes : List ℕ) → HasOneFault bytes
   pub either : (bytes : List ℕ) → HasNoFault bytes
 
--- what is known of what is looked for: a stage finds at most one fault, and none where it is passed
+-- What is known of what is looked for: a stage finds at most one fault, and none where it is passed.
 pub record IsSoundReading {S : Type 0} (reading : LineReading S) : Type 0 where
   pub stages : (s : S) (value : Line) → AreSound (reading.stages s value)
   pub ends : (count : ℕ) (s : S) → AreSound (reading.ends count s)
 
--- a line that says something by itself is not refused by itself
+-- A line that says something by itself is not refused by itself.
 says_or_not : HaveOneAnswer → (line : List ℕ) (v : Line) (why : Reason) → Says line v → SaysNothing line why → ⊥
 says_or_not one line v why says (inl (long, is)) = omega (arith, long, says.short)
 says_or_not one line v why says (inr (short, e, fault, is)) = one.either line v e says.reads fault
@@ -44,7 +44,7 @@ one_refusal one reading sound s line a b (inr (v, says, fault)) (inr (w, also, o
     let same : v ≡ w = one.value line v w says.reads also.reads in
     one_fault (reading.stages s v) (sound.stages s v) a b fault (rw (sym same) at other)
 
--- a line is not taken and refused
+-- A line is not taken and refused.
 taken_or_refused : {S : Type 0} → HaveOneAnswer → (reading : LineReading S) → IsSoundReading reading → (s : S) (line : List ℕ) (v : Line) (why : Reason) → IsTakenBy reading s line v → IsRefusedBy reading s line why → ⊥
 taken_or_refused one reading sound s line v why (says, passed) (inl nothing) = says_or_not one line v why says nothing
 taken_or_refused one reading sound s line v why (says, passed) (inr (w, also, fault)) =
@@ -63,7 +63,7 @@ one_outcome one reading sound s n (line ∷ lines) r q (inr (v, taken, rest)) (i
     let same : v ≡ w = one.value line v w taken.0.reads also.0.reads in
     one_outcome one reading sound (reading.after s n v) (n + 1) lines r q rest (rw (sym same) at more)
 
--- what is known of equal results
+-- What is known of equal results.
 ok_same : {S : Type 0} (s t : S) (r q : Result S TextError) → r ≡ Ok s → q ≡ Ok t → r ≡ q → s ≡ t
 ok_same s t r q a b same = cc
 
@@ -73,7 +73,7 @@ err_same e f r q a b same = cc
 not_both : {S : Type 0} (s : S) (e : TextError) (r q : Result S TextError) → r ≡ Ok s → q ≡ Err e → r ≡ q → ⊥
 not_both s e r q a b same = cc
 
--- one state, where all lines are taken
+-- One state, where all lines are taken.
 pub one_state : {S : Type 0} → HaveOneAnswer → (reading : LineReading S) → IsSoundReading reading → (text : List ℕ) (s t : S) → AllSayBy reading text s → AllSayBy reading text t → s ≡ t
 one_state one reading sound text s t a b =
     ok_same s t (Ok s) (Ok t) refl refl (one_outcome one reading sound reading.start 1 (text_lines text) (Ok s) (Ok t) a b)
@@ -82,7 +82,7 @@ ok_or_err : {S : Type 0} → HaveOneAnswer → (reading : LineReading S) → IsS
 ok_or_err one reading sound text s e a b =
     not_both s e (Ok s) (Err e) refl refl (one_outcome one reading sound reading.start 1 (text_lines text) (Ok s) (Err e) a b)
 
--- one first fault
+-- One first fault.
 pub one_fault_by : {S : Type 0} → HaveOneAnswer → (reading : LineReading S) → IsSoundReading reading → (text : List ℕ) (e f : TextError) → HasFaultBy reading text e → HasFaultBy reading text f → e ≡ f
 one_fault_by {S = State} one reading sound text e f (inl a) (inl b) =
     err_same {S = State} e f (Err e) (Err f) refl refl (one_outcome one reading sound reading.start 1 (text_lines text) (Err e) (Err f) a b)
@@ -93,7 +93,7 @@ one_fault_by one reading sound text e f (inr (s, says, fault)) (inr (t, also, ot
     let count = length (text_lines text) in
     one_fault (reading.ends count s) (sound.ends count s) e f fault (rw (sym same) at other)
 
--- none where all lines are taken and no fault comes after the last
+-- None where all lines are taken and no fault comes after the last.
 pub no_fault_by : {S : Type 0} → HaveOneAnswer → (reading : LineReading S) → IsSoundReading reading → (text : List ℕ) (s : S) (e : TextError) → AllSayBy reading text s → ArePassed (reading.ends (length (text_lines text)) s) → HasFaultBy reading text e → ⊥
 no_fault_by one reading sound text s e says whole (inl a) = ok_or_err one reading sound text s e says a
 no_fault_by one reading sound text s e says whole (inr (t, also, fault)) =

@@ -15,7 +15,7 @@ use Rattle.asm_build.specs.Drafts.{AreFitting, FitsAt, HasRoomIn, IsShort, unit_
 use Rattle.asm_build.specs.TemplateNames.{units_named, template_of}
 use Rattle.asm_build.proofs.NamedTemplates.{units_are}
 
--- one more slot line, whose instruction fits the next slot, behind two or more
+-- One more slot line, whose instruction fits the next slot, behind two or more.
 pub third_fits : (s : TemplateName) (count : ℕ) (a b c : SlotLine) (i : Insn) → count ≢ 0 → count ≢ 1 → AreFitting s (slots_of count a b c) → HasRoomIn s (slots_of count a b c)
     → Fits i (unit_at s (count_of (slots_of count a b c))) (count_of (slots_of count a b c)) → FitsAt s 0 a × FitsAt s 1 b × Fits i (unit_at s 2) 2 × IsShort s
 third_fits s zero a b c i some more before room fit = absurd (some refl)

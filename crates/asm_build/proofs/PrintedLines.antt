@@ -33,7 +33,7 @@ label_plain n l = decimal_is_plain n (omega (arith, l))
 label_value : (n : ℕ) → n < 2 ^ 32 → value_of ((kind.Name, label_text n) ∷ (kind.Mark, codes ":") ∷ []) ≡ Ok (line.Label (label_text n))
 label_value n l = rw (label_is_name n (omega (arith, l))) refl
 
--- the label of a bundle
+-- The label of a bundle.
 pub label_says : (n : ℕ) → n < 2 ^ 32 → Says (label_text n ++ codes ":") (line.Label (label_text n))
 label_says n l = record {
   short = omega (arith, length-append (label_text n) (codes ":"), label_is_short n l);
@@ -55,7 +55,7 @@ entry_value n l =
     ∙ ap (λ x. read_form (form.Entry ∷ []) (x ∷ []) (x ∷ []) >>= λ f. directive_value f ((kind.Name, label_text n) ∷ [])) (label_reads n l)
     ∙ ap (λ o. named o (λ name. line.Entry name)) (label_is_name n (omega (arith, l)))
 
--- a declared entry
+-- A declared entry.
 pub entry_says : (n : ℕ) → n < 2 ^ 32 → Says (codes ".entry " ++ label_text n) (line.Entry (label_text n))
 entry_says n l = record {
   short = omega (arith, label_is_short n l);
@@ -69,7 +69,7 @@ entry_says n l = record {
 says : (bytes : List ℕ) (value : Line) → length bytes ≤ LINE_LIMIT → reading_of bytes ≡ Ok value → IsListedLine value → Says bytes value
 says bytes value short reading listed = record { short = short; reads = record { reading = reading; listed = listed } }
 
--- the beginning of a bundle
+-- The beginning of a bundle.
 pub head_says : (s : TemplateName) → Says (codes "{ ." ++ map unit_letter (units_named s)) (line.Open s)
 head_says template_name.Mii = says _ _ (omega arith) refl tt
 head_says template_name.Mlx = says _ _ (omega arith) refl tt
@@ -82,7 +82,7 @@ head_says template_name.Bbb = says _ _ (omega arith) refl tt
 head_says template_name.Mmb = says _ _ (omega arith) refl tt
 head_says template_name.Mfb = says _ _ (omega arith) refl tt
 
--- its end
+-- Its end.
 pub end_says : Says (codes "}") line.Close
 end_says = says (codes "}") line.Close (omega arith) refl tt
 

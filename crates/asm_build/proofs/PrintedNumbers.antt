@@ -23,12 +23,12 @@ use Rattle.asm_build.proofs.DataBack.{AreWords}
 abbrev pub hex_text : ℕ → List ℕ
 hex_text w = 48 ∷ 120 ∷ digits 16 false w
 
--- each word after a comma
+-- Each word after a comma.
 abbrev pub more_text : List ℕ → List ℕ
 more_text [] = []
 more_text (w ∷ ws) = 44 ∷ hex_text w ++ more_text ws
 
--- the line of a word and more
+-- The line of a word and more.
 abbrev pub numbers_text : ℕ → List ℕ → List ℕ
 numbers_text w ws = codes "data8 " ++ hex_text w ++ more_text ws
 
@@ -64,7 +64,7 @@ count_tokens : (ws : List ℕ) → length (more_tokens ws) ≡ 2 * length ws
 count_tokens [] = refl
 count_tokens (w ∷ ws) = omega (arith, count_tokens ws)
 
--- numbers and commas in turn
+-- Numbers and commas in turn.
 agreed_more : (ws : List ℕ) (at : ℕ) → at % 2 ≡ 1 → at + 2 * length ws ≤ NUMBER_TOKEN_LIMIT → AreWords ws → agreed_data field.Imm64 at (more_tokens ws) ≡ length (more_tokens ws)
 agreed_more [] at odd room h = refl
 agreed_more (w ∷ ws) at odd room h =
@@ -96,7 +96,7 @@ after_name x ws h = cond-false (is_colon (token_of x.0 x.1)) _ _ h
 led_value : (w : ℕ) (ws : List KindAndText) → token_of kind.Number (hex_text w) ≡ t.Number false w → value_of ((kind.Name, codes "data8") ∷ (kind.Number, hex_text w) ∷ ws) ≡ data_of size.Eight (t.Number false w ∷ tokens ws)
 led_value w ws e = after_name (kind.Number, hex_text w) ws (ap is_colon e) ∙ ap (λ x. data_of size.Eight (x ∷ tokens ws)) e
 
--- a line of at most eight words
+-- A line of at most eight words.
 pub numbers_say : (w : ℕ) (ws : List ℕ) → length ws ≤ 7 → AreWords (w ∷ ws) → Says (numbers_text w ws) (line.Numbers 8 (w ∷ ws))
 numbers_say w ws few h =
     let after : lexed 0 (hex_text w ++ more_text ws) ≡ (kind.Number, hex_text w) ∷ more_words ws = hex_lexed w (more_text ws) h.0 (comma_ends ws) ∙ ap (λ ks. (kind.Number, hex_text w) ∷ ks) (more_lexed ws h.1) in

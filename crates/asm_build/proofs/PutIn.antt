@@ -6,7 +6,7 @@ use Rattle.std.specs.BTreeMap.{insert_entry, is_at}
 use Rattle.std.specs.Ordering.{is_eq, match_ordering}
 use Rattle.std.proofs.lemmas.Cmp.{alike_right}
 
--- at the key
+-- At the key.
 pub put_here : {K X : Type 0} (R : K → K → Ordering) (es : List (K × X)) (k : K) (v : X) → R k k ≡ Equal → lookup (is_at (R k)) (insert_entry R es k v) ≡ Some v
 put_here R [] k v same = rw same refl
 put_here R (e ∷ es) k v same = by (R k e.0) refl (put_here R es k v same)
@@ -16,7 +16,7 @@ put_here R (e ∷ es) k v same = by (R k e.0) refl (put_here R es k v same)
     by Equal h later = rw h refl
     by Greater h later = rw h later
 
--- at another key
+-- At another key.
 pub put_elsewhere : {K X : Type 0} (R : K → K → Ordering) → IsTotalOrder R → (es : List (K × X)) (k : K) (v : X) (q : K) → is_eq (R q k) ≡ false → lookup (is_at (R q)) (insert_entry R es k v) ≡ lookup (is_at (R q)) es
 put_elsewhere R o [] k v q other = rw other refl
 put_elsewhere R o (e ∷ es) k v q other = by (R k e.0) refl (put_elsewhere R o es k v q other)

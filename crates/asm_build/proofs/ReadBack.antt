@@ -39,7 +39,7 @@ use Rattle.asm_build.proofs.WrittenBundles.{SlotsSay, outside}
 use Rattle.asm_build.proofs.WrittenData.{data_goes}
 use Rattle.asm_build.proofs.WrittenTexts.{as_many, SoFar, AreGood, good_of, all_go}
 
--- outside a bundle, in either section
+-- Outside a bundle, in either section.
 abbrev finished : Section → List BundleLines → List EntryLine → List RelationLine → Labels → List ℕ → TextParts
 finished s bs es rs ls bytes = record { section = s; current = None; bundles = bs; entries = es; relations = rs; labels = ls; bytes = bytes }
 
@@ -49,7 +49,7 @@ record Finishes (bs : List BundleLines) (es : List EntryLine) (rs : List Relatio
   pub next : ℕ
   pub goes : Goes (outside bs es rs ls) line text (finished section bs es rs ls bytes) next
 
--- the lines of the data
+-- The lines of the data.
 data_finishes : (bs : List BundleLines) (es : List EntryLine) (rs : List RelationLine) (ls : Labels) (line : ℕ) (bytes : List ℕ) → AreBytes bytes → length bytes % 8 ≡ 0 → length bytes ≤ DATA_LIMIT → Finishes bs es rs ls line (data_text bytes) bytes
 data_finishes bs es rs ls line [] small eights room = record { section = section.Text; next = line; goes = stays (outside bs es rs ls) line }
 data_finishes bs es rs ls line (b ∷ bytes) small eights room =
@@ -66,13 +66,13 @@ among_at [] k h = absurd (omega (arith, h))
 among_at (x ∷ xs) zero h = or_left (x == x) (is_among xs x) (eq-eqb x x refl)
 among_at (x ∷ xs) (suc k) h = or_right (x == slice_index xs k) (is_among xs (slice_index xs k)) (among_at xs k (omega (arith, h)))
 
--- data of whole words stay
+-- Data of whole words stay.
 nothing_padded : (bytes : List ℕ) → length bytes % 8 ≡ 0 → padded bytes ≡ bytes
 nothing_padded bytes h =
     let none : (8 - length bytes % 8) % 8 ≡ 0 = rw h refl in
     ap (λ n. bytes ++ replicate n 0) none ∙ append-nil bytes
 
--- the lines come to the state
+-- The lines come to the state.
 all_say : (text : List ℕ) (s : TextParts) (next : ℕ) → Goes start 1 text s next → AllSay text s
 all_say text s next goes =
     let none : text_lines [] ≡ [] = ap (map without_terminator) lines-nil in

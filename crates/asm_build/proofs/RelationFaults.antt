@@ -44,13 +44,13 @@ relations_decided IsEntry is before [] = tt
 relations_decided IsEntry is before (l ∷ ls) =
     (decided (is l.bundle), (decided (dec_le (length (related before l)) RELATION_LIMIT), relations_decided IsEntry is (related before l) ls))
 
--- no more than a program may have
+-- No more than a program may have.
 pub few_related : (IsEntry : ℕ → Type 0) (before : List Relation) (lines : List RelationLine) → length before ≤ RELATION_LIMIT → ArePassed (relation_stages IsEntry before lines)
     → length (all_related before lines) ≤ RELATION_LIMIT
 few_related IsEntry before [] few passed = few
 few_related IsEntry before (l ∷ ls) few passed = few_related IsEntry (related before l) ls passed.1.0 passed.1.1
 
--- the lines after one that has no fault
+-- The lines after one that has no fault.
 pub line_passed : (IsEntry : ℕ → Type 0) (before : List Relation) (l : RelationLine) (ls : List RelationLine) → ArePassed (relation_stages IsEntry before (l ∷ []))
     → ArePassed (relation_stages IsEntry (related before l) ls) → ArePassed (relation_stages IsEntry before (l ∷ ls))
 line_passed IsEntry before l ls one later = (one.0, (one.1.0, later))
@@ -59,14 +59,14 @@ pub later_fault : (IsEntry : ℕ → Type 0) (before : List Relation) (l : Relat
     → IsFirstFault (relation_stages IsEntry (related before l) ls) e → IsFirstFault (relation_stages IsEntry before (l ∷ ls)) e
 later_fault IsEntry before l ls e one fault = inr (one.0, inr (one.1.0, fault))
 
--- the fault of the first of them
+-- The fault of the first of them.
 pub first_line_fault : (IsEntry : ℕ → Type 0) (before : List Relation) (l : RelationLine) (ls : List RelationLine) (e : TextError) → IsFirstFault (relation_stages IsEntry before (l ∷ [])) e
     → IsFirstFault (relation_stages IsEntry before (l ∷ ls)) e
 first_line_fault IsEntry before l ls e (inl other) = inl other
 first_line_fault IsEntry before l ls e (inr (entry, inl over)) = inr (entry, inl over)
 first_line_fault IsEntry before l ls e (inr (entry, inr (few, never))) = absurd never
 
--- each relation is of an entry
+-- Each relation is of an entry.
 pub related_landed : (IsEntry : ℕ → Type 0) (before : List Relation) (lines : List RelationLine) → ArePassed (relation_stages IsEntry before lines)
     → ((r : Relation) → Contains before r → IsEntry r.bundle) → (r : Relation) → Contains (all_related before lines) r → IsEntry r.bundle
 related_landed IsEntry before [] passed all r has = all r has

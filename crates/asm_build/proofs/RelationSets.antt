@@ -20,7 +20,7 @@ use Rattle.asm_build.specs.Relations.{relation_cmp, relations_above, relations_a
 use Rattle.asm_build.proofs.Membership.{first_there, later_there, first_or_later, none_there, all_both}
 use Rattle.asm_build.proofs.SortedSets.{Ways, IsOrderedBy, Chain, put_there, still_there, was_there, chain_grows}
 
--- relations are compared by their numbers
+-- Relations are compared by their numbers.
 cmp_of : (r s : Relation) (a b c : Ordering) → a ≡ nat_cmp r.bundle s.bundle → b ≡ nat_cmp r.p s.p → c ≡ nat_cmp r.q s.q → relation_cmp r s ≡ ordering_then a (ordering_then b c)
 cmp_of r s a b c x y z =
     sym (ap (λ o. ordering_then o (ordering_then b c)) x ∙ ap (λ o. ordering_then (nat_cmp r.bundle s.bundle) (ordering_then o c)) y ∙ ap (λ o. ordering_then (nat_cmp r.bundle s.bundle) (ordering_then (nat_cmp r.p s.p) o)) z)
@@ -57,19 +57,19 @@ comes_after r s (inr (same, inr (also, more))) = by_higher r s Greater (sym same
 pub relations_ordered : IsOrderedBy relation_cmp IsRelationBefore
 relations_ordered = record { way = three_ways; after = comes_after }
 
--- one after another
+-- One after another.
 pub with_both : (before xs ys : List Relation) → with_relations before (xs ++ ys) ≡ with_relations (with_relations before xs) ys
 with_both before [] ys = refl
 with_both before (x ∷ xs) ys = with_both (insert_key relation_cmp before x) xs ys
 
--- those between one more of these and the ones above it
+-- Those between one more of these and the ones above it.
 pub next_related : (bundle : ℕ) (ps qs : List ℕ) (i p : ℕ) (now next : List Relation) → i < length ps → p ≡ slice_index ps i → next ≡ with_relations now (relations_above bundle p qs)
     → with_relations next (flat_map (λ p. relations_above bundle p qs) (drop (i + 1) ps)) ≡ with_relations now (flat_map (λ p. relations_above bundle p qs) (drop i ps))
 next_related bundle ps qs i p now next less is are =
     let front : drop i ps ≡ p ∷ drop (i + 1) ps = drop_more ps i 0 less ∙ ap (λ x. x ∷ drop (i + 1) ps) (sym is) in
     rw (front, are) (sym (with_both now (relations_above bundle p qs) (flat_map (λ p. relations_above bundle p qs) (drop (i + 1) ps))))
 
--- what relations with more of them contain
+-- What relations with more of them contain.
 pub kept_with : (before rs : List Relation) (r : Relation) → Contains before r → Contains (with_relations before rs) r
 kept_with before [] r h = h
 kept_with before (s ∷ rs) r h = kept_with (insert_key relation_cmp before s) rs r (still_there relation_cmp IsRelationBefore relations_ordered s r before h)
@@ -159,7 +159,7 @@ is_between bundle (p ∷ ps) qs r h = elim (first_or_later p r.p ps h.lower) [
       (is_between bundle ps qs r (record { bundle = h.bundle; lower = among; higher = h.higher; apart = h.apart }))
 ]
 
--- of each two predicates
+-- Of each two predicates.
 fit_above : (IsEntry : ℕ → Type 0) (bundle p : ℕ) (qs : List ℕ) → IsEntry bundle → IsRelated p → AllByRecursion IsRelated qs
     → AllByRecursion (IsFit IsEntry) (relations_above bundle p qs)
 fit_above IsEntry bundle p [] entry is all = tt
@@ -192,12 +192,12 @@ fit_with IsEntry before (r ∷ rs) all h =
     fit_with IsEntry (insert_key relation_cmp before r) rs all.1
     (chain_grows relation_cmp IsRelationBefore (IsFit IsEntry) relations_ordered no_relation r before (above_none IsEntry r all.0) all.0 h)
 
--- the same by numbers
+-- The same by numbers.
 before_from : Relation → List Relation → ℕ → Relation
 before_from low rs zero = low
 before_from low rs (suc n) = relation_at rs n
 
--- each relation by its number: it rises, and is one that may be declared
+-- Each relation by its number: it rises, and is one that may be declared.
 abbrev IsFitAt : (ℕ → Type 0) → Relation → List Relation → ℕ → Type 0
 IsFitAt IsEntry low rs n = IsRelationBefore (before_from low rs n) (relation_at rs n) × IsFit IsEntry (relation_at rs n)
 
@@ -219,7 +219,7 @@ chain_at Good low (r ∷ rs) h zero less = (h.0, h.1)
 chain_at Good low (r ∷ rs) h (suc zero) less = chain_at Good r rs h.2 0 (omega (arith, less))
 chain_at Good low (r ∷ rs) h (suc (suc n)) less = chain_at Good r rs h.2 (suc n) (omega (arith, less))
 
--- each comes after the one before it
+-- Each comes after the one before it.
 pub chain_rises : (Good : Relation → Type 0) (rs : List Relation) → Chain IsRelationBefore Good no_relation rs → (n : ℕ) → n < length rs → IsRelationBefore (relation_before rs n) (relation_at rs n)
 unfolding before_from
 chain_rises Good rs h zero less = (chain_at Good no_relation rs h 0 less).0
@@ -236,7 +236,7 @@ fit_of_all IsEntry rs h = fit_from IsEntry no_relation rs (λ n less. at n (h n 
 pub all_of_fit : (IsEntry : ℕ → Type 0) (rs : List Relation) → AreFitFrom IsEntry no_relation rs → AreRelationsOf IsEntry rs
 all_of_fit IsEntry rs h n less = (chain_rises (IsFit IsEntry) rs h n less, (chain_at (IsFit IsEntry) no_relation rs h n less).1)
 
--- those of a program
+-- Those of a program.
 pub all_of_relations : (bundles : List Bundle) (entries : List ℕ) (rs : List Relation) → AreRelations bundles entries rs → AreRelationsOf (IsEntryOf bundles entries) rs
 all_of_relations bundles entries rs h n less =
     let is = h n less in

@@ -26,19 +26,19 @@ use Rattle.asm_build.proofs.SortedSets.{at_end}
 use Rattle.asm_build.proofs.Taking.{Goes, stays, goes_on, line_goes}
 use Rattle.asm_build.proofs.WrittenBundles.{outside}
 
--- the bundle of a relation
+-- The bundle of a relation.
 abbrev pub bundle_of : Relation → ℕ
 bundle_of r = r.bundle
 
--- the relations of the bundles before the n-th
+-- The relations of the bundles before the n-th.
 abbrev pub relations_below : ℕ → List Relation → List Relation
 relations_below n rs = below bundle_of n rs
 
--- the bundles of relations don't fall, from one on
+-- The bundles of relations don't fall, from one on.
 abbrev pub BundlesFrom : ℕ → List Relation → Type 0
 BundlesFrom low rs = KeysFrom bundle_of low rs
 
--- what is known of the relations of a program
+-- What is known of the relations of a program.
 bundles_rise : (bundles : List Bundle) (entries : List ℕ) (low : Relation) (rs : List Relation) → AreFitFrom (IsEntryOf bundles entries) low rs → BundlesFrom low.bundle rs
 bundles_rise bundles entries low [] h = tt
 bundles_rise bundles entries low (r ∷ rs) h = (rises_or_stays low r h.0, bundles_rise bundles entries r rs h.2)
@@ -75,7 +75,7 @@ printed_at bundles entries n (r ∷ rs) h = elim (cases_order r.bundle n) [
   | inr (inr more) ↦ rw (ne_eqb r.bundle n (λ e. omega (arith, more, e))) (printed_at bundles entries n rs h.1)
 ]
 
--- the line of a relation
+-- The line of a relation.
 two_digits : (n : ℕ) → n ≤ 15 → length (decimal n) ≤ 2
 two_digits n h = length-decimal-le 2 n (lit< tt) (omega (arith, h)) (omega (arith, h))
 
@@ -129,7 +129,7 @@ relations_go bs es rs ls k n done (r ∷ here) there all are =
       are = subst (λ ds. AreRelationLines ds more.lines) (append_assoc done (r ∷ []) here) more.are;
     }
 
--- the order of relations is transitive
+-- The order of relations is transitive.
 later : (a b c : Relation) → IsRelationBefore a b → IsRelationBefore b c → IsRelationBefore a c
 later a b c (inl x) (inl y) = inl (omega (arith, x, y))
 later a b c (inl x) (inr (e, y)) = inl (omega (arith, x, e))
@@ -139,7 +139,7 @@ later a b c (inr (e, inl x)) (inr (f, inr (g, y))) = inr (e ∙ f, inl (omega (a
 later a b c (inr (e, inr (g, x))) (inr (f, inl y)) = inr (e ∙ f, inl (omega (arith, g, y)))
 later a b c (inr (e, inr (g, x))) (inr (f, inr (i, y))) = inr (e ∙ f, inr (g ∙ i, omega (arith, x, y)))
 
--- two predicates make one relation
+-- Two predicates make one relation.
 one_pair : (bundle p q : ℕ) → p < q → relations_among bundle (p ∷ q ∷ []) ≡ record { bundle = bundle; p = p; q = q } ∷ []
 one_pair bundle p q h = rw (le-ltb p p (omega arith), lt-ltb p q h, le-ltb q p (omega (arith, h)), le-ltb q q (omega arith)) refl
 

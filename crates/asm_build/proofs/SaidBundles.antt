@@ -28,19 +28,19 @@ said l = record { insn = l.insn; target = l.target; stop = l.stop }
 abbrev said_before : SlotLine → List Line → SlotSaid
 said_before l rest = record { insn = l.insn; target = l.target; stop = is_stopped rest || l.stop }
 
--- the slots of an open bundle, and those on the lines that follow
+-- The slots of an open bundle, and those on the lines that follow.
 abbrev all_slots : TemplateName → SlotLines → List Line → List SlotSaid
 all_slots name slots.Zero rest = slots_in name 0 rest
 all_slots name (slots.One a) rest = said_before a rest ∷ slots_in name 1 rest
 all_slots name (slots.Two a b) rest = said a ∷ said_before b rest ∷ slots_in name 2 rest
 all_slots name (slots.Three a b c) rest = said a ∷ said b ∷ said_before c rest ∷ slots_in name 3 rest
 
--- the bundle that is open, where there is one, and those that begin on the lines that follow
+-- The bundle that is open, where there is one, and those that begin on the lines that follow.
 abbrev pending : Option OpenBundle → List Line → List (List SlotSaid × TemplateName)
 pending None rest = bundles_in rest
 pending (Some o) rest = (all_slots o.name o.slots rest, o.name) ∷ bundles_in rest
 
--- a bundle whose names are still to be put in is what its slots and its template's name say
+-- A bundle whose names are still to be put in is what its slots and its template's name say.
 abbrev pub IsDrafted : List SlotSaid → TemplateName → BundleLines → Type 0
 IsDrafted (x ∷ y ∷ []) template_name.Mlx l =
     (template_of template_name.Mlx x.stop false y.stop ≡ Some l.bundle.template)
@@ -59,12 +59,12 @@ AreDrafted xs ls = ⊥
 abbrev pub Grown : List BundleLines → List BundleLines → List (List SlotSaid × TemplateName) → Type 0
 Grown old new saids = (more : List BundleLines) × (new ≡ old ++ more) × AreDrafted saids more
 
--- outside a bundle
+-- Outside a bundle.
 outside : (o : Option OpenBundle) (v : Line) (vs : List Line) → o ≡ None → bundles_in (v ∷ vs) ≡ bundles_in vs → pending o (v ∷ vs) ≡ pending o vs
 outside None v vs none same = same
 outside (Some o) v vs none same = absurd cc
 
--- a blank line
+-- A blank line.
 blank_slots : (name : TemplateName) (lines : SlotLines) (vs : List Line) → all_slots name lines (line.Empty ∷ vs) ≡ all_slots name lines vs
 blank_slots name slots.Zero vs = refl
 blank_slots name (slots.One a) vs = refl
@@ -75,12 +75,12 @@ blank : (o : Option OpenBundle) (vs : List Line) → pending o (line.Empty ∷ v
 blank None vs = refl
 blank (Some o) vs = ap (λ contents. (contents, o.name) ∷ bundles_in vs) (blank_slots o.name o.slots vs)
 
--- the beginning of a bundle
+-- The beginning of a bundle.
 opened : (o : Option OpenBundle) (name : TemplateName) (vs : List Line) → o ≡ None → pending o (line.Open name ∷ vs) ≡ pending (Some (record { name = name; slots = slots.Zero })) vs
 opened None name vs none = refl
 opened (Some o) name vs none = absurd cc
 
--- one more slot
+-- One more slot.
 slot_added : (name : TemplateName) (lines : SlotLines) (n : ℕ) (d : Draft) (stop : Bool) (vs : List Line) → HasRoomIn name lines
     → pending (Some (record { name = name; slots = lines })) (line.Slot d stop ∷ vs) ≡ pending (Some (added (record { name = name; slots = lines }) n d stop)) vs
 slot_added name slots.Zero n d stop vs room = refl
@@ -93,7 +93,7 @@ slot_more : (o : Option OpenBundle) (n : ℕ) (d : Draft) (stop : Bool) (vs : Li
 slot_more None n d stop vs some room = absurd cc
 slot_more (Some o) n d stop vs some room = slot_added o.name o.slots n d stop vs room
 
--- a stop after the last
+-- A stop after the last.
 or_true : (b : Bool) → true ≡ (b || true)
 or_true true = refl
 or_true false = refl
@@ -112,7 +112,7 @@ stop_more : (o : Option OpenBundle) (vs : List Line) → IsSomeAnd o HasSlot →
 stop_more None vs some = absurd some
 stop_more (Some o) vs some = last_stopped o.name o.slots vs some
 
--- the end of a bundle
+-- The end of a bundle.
 long_drafted : (a b : SlotLine) (t : Option ℕ) → template_of template_name.Mlx a.stop false b.stop ≡ t → IfSome (option_map (long a b) t) (IsDrafted (said a ∷ said b ∷ []) template_name.Mlx)
 long_drafted a b None is = tt
 long_drafted a b (Some t) is = (is, refl, refl, refl)
@@ -139,7 +139,7 @@ close_more s None vs end some whole h = absurd cc
 close_more s (Some o) vs end some whole h =
     some_drafted s (closed o) (all_slots o.name o.slots (line.Close ∷ vs), o.name) vs end whole (closed_drafted o.name o.slots vs) h
 
--- where the bundles stay and the ones that are pending are the same
+-- Where the bundles stay and the ones that are pending are the same.
 stays : (old new : List BundleLines) (xs ys : List (List SlotSaid × TemplateName)) → xs ≡ ys → Grown old new ys → Grown old new xs
 stays old new xs ys same h = subst (Grown old new) (sym same) h
 

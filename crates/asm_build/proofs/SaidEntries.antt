@@ -18,7 +18,7 @@ use Rattle.asm_build.specs.TextParts.{Labels, address_of}
 use Rattle.asm_build.proofs.Membership.{first_there, later_there, first_or_later, none_there}
 use Rattle.asm_build.proofs.SaidLines.{names_of}
 
--- what a set with one more contains
+-- What a set with one more contains.
 put_there : (k : ℕ) (ns : List ℕ) → Contains (insert_key nat_cmp ns k) k
 put_there k [] = first_there k []
 put_there k (n ∷ ns) = elim (cases_order k n) [
@@ -70,7 +70,7 @@ none_more labels entries = record {
   only = λ n is. inl is;
 }
 
--- one bundle, by its label
+-- One bundle, by its label.
 one_kept : (m n : ℕ) (entries : List ℕ) → Contains entries n → Contains (declared entries m) n
 one_kept m n entries is = elim (cases_eq m 0) [
   | inl first ↦ rw first is
@@ -96,7 +96,7 @@ one_only m n entries is = elim (cases_eq m 0) [
 same_bundle : (m n : ℕ) (o : Option Address) → o ≡ Some (address.Bundle m) → o ≡ Some (address.Bundle n) → m ≡ n
 same_bundle m n o h k = cc
 
--- the entries of a line and of those after it
+-- The entries of a line and of those after it.
 one_more : (labels : Labels) (name : List ℕ) (names : List (List ℕ)) (m : ℕ) (entries out : List ℕ) → address_of labels name ≡ Some (address.Bundle m)
     → Adds labels names (declared entries m) out → Adds labels (name ∷ names) entries out
 one_more labels name names m entries out found later = record {
@@ -119,7 +119,7 @@ one_more labels name names m entries out found later = record {
     at n (inl before) = last n (one_only m n entries before)
     at n (inr (some, other, among, is)) = inr (some, other, later_there name other names among, is)
 
--- a line that is declared names a bundle
+-- A line that is declared names a bundle.
 record Declares (o : Option Address) (line : ℕ) (entries : List ℕ) (next : List ℕ → Result (List ℕ) TextError) (out : List ℕ) : Type 0 where
   pub bundle : ℕ
   pub found : o ≡ Some (address.Bundle bundle)

@@ -32,7 +32,7 @@ there labels name a = put_here (slice_cmp nat_cmp) labels name a (tied_itself na
 elsewhere : (labels : Labels) (name other : List ℕ) (a : Address) → is_eq (slice_cmp nat_cmp name other) ≡ false → address_of (with_one labels other a) name ≡ address_of labels name
 elsewhere labels name other a differ = put_elsewhere (slice_cmp nat_cmp) nat_list_cmp_total labels other a name differ
 
--- it is the new one or another
+-- It is the new one or another.
 record Which (name other : List ℕ) : Type 0 where
   which : (name ≡ other) ⊎ (is_eq (slice_cmp nat_cmp name other) ≡ false)
 
@@ -57,7 +57,7 @@ closed_labels : (s : TextParts) (o : Option BundleLines) → (with_bundle s o).l
 closed_labels s None = refl
 closed_labels s (Some b) = refl
 
--- a label stays
+-- A label stays.
 one_kept : (s : TextParts) (n : ℕ) (v : Line) (name : List ℕ) (a : Address) → ArePassed (value_stages s v) → address_of s.labels name ≡ Some a → address_of (after s n v).labels name ≡ Some a
 one_kept s n (line.Label other) name a passed is = kept_with s.labels name other a (here s) passed.1.0 is
 one_kept s n line.Close name a passed is = ap (λ labels. address_of labels name) (closed_labels s (closed_of s.current)) ∙ is
@@ -67,7 +67,7 @@ all_kept : (s : TextParts) (n : ℕ) (values : List Line) (t : TextParts) (name 
 all_kept s n [] t name a h is = ap (λ (u : TextParts). address_of u.labels name) h ∙ is
 all_kept s n (v ∷ vs) t name a h is = all_kept (after s n v) (n + 1) vs t name a h.1 (one_kept s n v name a h.0 is)
 
--- how many bundles have begun, with the open one
+-- How many bundles have begun, with the open one.
 abbrev pub open_count : Option OpenBundle → ℕ
 open_count None = 0
 open_count (Some o) = 1
@@ -75,7 +75,7 @@ open_count (Some o) = 1
 abbrev pub begun : TextParts → ℕ
 begun s = length s.bundles + open_count s.current
 
--- what a label names after these lines more
+-- What a label names after these lines more.
 abbrev address_from : TextParts → List Line → Address
 address_from s before = section_address (section_after s.section before) (begun s + length (bundles_in before)) (length s.bytes + length (data_in before))
 
@@ -105,7 +105,7 @@ closed_addresses s (Some b) before h = same_section_address (section_after s.sec
 data_addresses : (where_ : Section) (a : ℕ) (bytes more rest : List ℕ) → section_address where_ a (length bytes + length (more ++ rest)) ≡ section_address where_ a (length (bytes ++ more) + length rest)
 data_addresses where_ a bytes more rest = same_section_address where_ a a _ _ refl (omega (arith, length-append more rest, length-append bytes more))
 
--- a line more or less
+-- A line more or less.
 one_address : (s : TextParts) (n : ℕ) (v : Line) (before : List Line) → ArePassed (value_stages s v) → address_from s (v ∷ before) ≡ address_from (after s n v) before
 one_address s n (line.Numbers size values) before passed = data_addresses (section_after s.section before) (begun s + length (bundles_in before)) s.bytes _ (data_in before)
 one_address s n (line.Skip count) before passed = data_addresses (section_after s.section before) (begun s + length (bundles_in before)) s.bytes _ (data_in before)
@@ -118,7 +118,7 @@ one_address s n line.Stop before passed =
 one_address s n line.Close before passed = closed_addresses s (closed_of s.current) before (close_begun s s.current passed.0 passed.1.1.0)
 one_address s n v before passed = refl
 
--- how many bundles have begun with those on these lines, a line more or less
+-- How many bundles have begun with those on these lines, a line more or less.
 pub one_begun : (s : TextParts) (n : ℕ) (v : Line) (before : List Line) → ArePassed (value_stages s v) → begun s + length (bundles_in (v ∷ before)) ≡ begun (after s n v) + length (bundles_in before)
 one_begun s n (line.Open name) before passed = omega (arith, none_open s.current passed.0.closed)
 one_begun s n (line.Slot d stop) before passed = ap (λ c. length s.bundles + c + length (bundles_in before)) (open_mapped (λ o. added o n d stop) s.current)
@@ -140,7 +140,7 @@ found_after s n [] after_ t name h =
 found_after s n (v ∷ before) after_ t name h =
     found_after (after s n v) (n + 1) before after_ t name h.1 ∙ ap (λ a. Some a) (sym (one_address s n v before h.0))
 
--- a label on lines after these
+-- A label on lines after these.
 abbrev LabelFrom : TextParts → List Line → List ℕ → Address → Type 0
 LabelFrom s values name a = (before : List Line) × (after_ : List Line) × (values ≡ before ++ line.Label name ∷ after_) × (a ≡ address_from s before)
 

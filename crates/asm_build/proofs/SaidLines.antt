@@ -16,7 +16,7 @@ abbrev pub Follow : TextParts → ℕ → List Line → TextParts → Type 0
 Follow s n [] t = t ≡ s
 Follow s n (v ∷ vs) t = ArePassed (value_stages s v) × Follow (after s n v) (n + 1) vs t
 
--- what lines say that come to something
+-- What lines say that come to something.
 pub record TakenAs (s : TextParts) (n : ℕ) (lines : List (List ℕ)) (t : TextParts) : Type 0 where
   pub values : List Line
   pub said : AreSaid lines values
@@ -43,14 +43,14 @@ closed_entries : (s : TextParts) (o : Option BundleLines) → (with_bundle s o).
 closed_entries s None = refl
 closed_entries s (Some b) = refl
 
--- what a line adds to the data
+-- What a line adds to the data.
 one_data : (s : TextParts) (n : ℕ) (v : Line) → (after s n v).bytes ≡ s.bytes ++ line_data v
 one_data s n (line.Numbers size values) = refl
 one_data s n (line.Skip count) = refl
 one_data s n line.Close = closed_bytes s (closed_of s.current) ∙ sym (append-nil s.bytes)
 one_data s n v = sym (append-nil s.bytes)
 
--- the data are those of the lines
+-- The data are those of the lines.
 pub all_data : (s : TextParts) (n : ℕ) (values : List Line) (t : TextParts) → Follow s n values t → t.bytes ≡ s.bytes ++ data_in values
 all_data s n [] t h = ap (λ (u : TextParts). u.bytes) h ∙ sym (append-nil s.bytes)
 all_data s n (v ∷ vs) t h =
@@ -59,7 +59,7 @@ all_data s n (v ∷ vs) t h =
 abbrev pub names_of : List EntryLine → List (List ℕ)
 names_of lines = map (λ e. e.name) lines
 
--- what a line adds to the entries
+-- What a line adds to the entries.
 one_entry : (s : TextParts) (n : ℕ) (v : Line) → names_of (after s n v).entries ≡ names_of s.entries ++ line_entry v
 one_entry s n (line.Entry name) = map-append (λ (e : EntryLine). e.name) s.entries (record { line = n; name = name } ∷ [])
 one_entry s n line.Close = ap names_of (closed_entries s (closed_of s.current)) ∙ sym (append-nil (names_of s.entries))

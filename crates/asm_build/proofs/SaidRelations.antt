@@ -20,7 +20,7 @@ use Rattle.asm_build.proofs.SortedSets.{Chain, chain_grows}
 use Rattle.asm_build.proofs.SaidLabels.{begun, one_begun, none_open}
 use Rattle.asm_build.proofs.SaidLines.{Follow}
 
--- one of these lines declares relations of the n-th bundle, between these predicates
+-- One of these lines declares relations of the n-th bundle, between these predicates.
 pub record IsAmong (ls : List RelationLine) (n : ℕ) (ps : List ℕ) : Type 0 where
   pub declaring : RelationLine
   pub among : Contains ls declaring
@@ -41,7 +41,7 @@ closed_relations s (Some b) = refl
 moved : (ls ms : List RelationLine) (n : ℕ) (ps : List ℕ) → ls ≡ ms → IsAmong ls n ps → IsAmong ms n ps
 moved ls ms n ps same h = subst (λ ks. IsAmong ks n ps) same h
 
--- a line stays
+-- A line stays.
 one_kept : (s : TextParts) (k : ℕ) (v : Line) (n : ℕ) (ps : List ℕ) → IsAmong s.relations n ps → IsAmong (after s k v).relations n ps
 one_kept s k (line.Relation qs) n ps h = record { declaring = h.declaring; among = Contains-append_left s.relations _ h.declaring h.among; bundle = h.bundle; predicates = h.predicates }
 one_kept s k line.Close n ps h = moved s.relations (with_bundle s (closed_of s.current)).relations n ps (sym (closed_relations s (closed_of s.current))) h
@@ -88,7 +88,7 @@ all_on s k (v ∷ vs) t n ps h is = by (all_on (after s k v) (k + 1) vs t n ps h
     by (inl before) = one_on s k v vs n ps h.0 before
     by (inr on) = inr (record { before = v ∷ on.before; after = on.after; stands = ap (λ xs. v ∷ xs) on.stands; bundle = on.bundle ∙ sym (one_begun s k v on.before h.0) })
 
--- what lines declare
+-- What lines declare.
 kept_on : (before : List Relation) (ls : List RelationLine) (r : Relation) → Contains before r → Contains (all_related before ls) r
 kept_on before [] r h = h
 kept_on before (l ∷ ls) r h = kept_on (related before l) ls r (kept_with before (relations_among l.bundle l.predicates) r h)
@@ -100,7 +100,7 @@ put_on before (m ∷ ls) r l among h = elim (first_or_later m l ls among) [
   | inr later ↦ put_on (related before m) ls r l later h
 ]
 
--- a relation of one of these lines
+-- A relation of one of these lines.
 pub record IsOf (ls : List RelationLine) (r : Relation) : Type 0 where
   pub declaring : RelationLine
   pub among : Contains ls declaring

@@ -31,11 +31,11 @@ use Rattle.asm_build.proofs.SaidRelations.{relation_said, said_relation, rise_wi
 use Rattle.asm_build.proofs.SaidLines.{Follow, taken_as, all_data, all_entries, names_of}
 use Rattle.asm_build.proofs.Finishing.{length_named, both_none}
 
--- what is found among labels is a label on a line
+-- What is found among labels is a label on a line.
 abbrev AreSaidLabels : List Line → Labels → Type 0
 AreSaidLabels lines labels = (name : List ℕ) (a : Address) → address_of labels name ≡ Some a → IsLabel lines name a
 
--- an operation with what its name means, where it means something that fits
+-- An operation with what its name means, where it means something that fits.
 plain : (branches : Bool) (x : Op) → unwrap_or (if branches then None else Some x) x ≡ x
 plain true x = refl
 plain false x = refl
@@ -60,7 +60,7 @@ insn_said lines labels n slot name said same is = record {
   op = subst (λ target. IsOpSaid lines n slot.insn.op target (unwrap_or (named labels n slot.insn.op name.target) slot.insn.op)) same (op_said lines labels n slot.insn.op name.target said is);
 }
 
--- where no slot of a list is unnamed, each has its name
+-- Where no slot of a list is unnamed, each has its name.
 none_found : (labels : Labels) (n : ℕ) (s : Insn × SlotName) (rest : List (Insn × SlotName)) → unnamed_among labels n (s ∷ rest) ≡ None → (is_named labels n s ≡ true) × (unnamed_among labels n rest ≡ None)
 none_found labels n s rest none = by (is_named labels n s) refl
   where
@@ -71,7 +71,7 @@ none_found labels n s rest none = by (is_named labels n s) refl
         no_option : (m : ℕ) → Some m ≡ None → ⊥
         no_option m h = cc
 
--- a bundle with the addresses of its names
+-- A bundle with the addresses of its names.
 slots_of : (labels : Labels) (n : ℕ) (l : BundleLines) → unnamed_slot labels n l ≡ None → (slots : List SlotSaid) (name : TemplateName) (lines : List Line) → AreSaidLabels lines labels → IsDrafted slots name l → IsBundleSaid lines n slots name (bundle_named labels n l)
 slots_of labels n l none (x ∷ y ∷ []) template_name.Mlx lines said (template, contents, first, second) =
     let all : unnamed_among labels n ((x.insn, l.first) ∷ (y.insn, l.second) ∷ []) ≡ None = ap (λ s. unnamed_among labels n (slot_names s l)) (sym contents) ∙ none in
@@ -129,7 +129,7 @@ same_address a b o h k = cc
 is_inside : (count : ℕ) (a : Address) (o : Option Address) → o ≡ Some a → IfSome o (IsInside count) → IsInside count a
 is_inside count a o is inside = rw is at inside
 
--- a bundle is declared on lines exactly where they name it by its label
+-- A bundle is declared on lines exactly where they name it by its label.
 abbrev SameLabels : List Line → Labels → Type 0
 SameLabels lines labels = (name : List ℕ) (a : Address) → IsLabel lines name a → address_of labels name ≡ Some a
 

@@ -20,18 +20,18 @@ use Rattle.asm_build.specs.TextParts.{TextParts, AreLabelsBelow}
 use Rattle.asm_build.specs.TextReading.{text_lines, Says, SaysNothing, LineReading, IsRefusedBy, IsTakenBy, ComesToBy, AllSayBy, HasFaultBy, found, first_of}
 use Rattle.asm_build.proofs.EndFaults.{IsOfLine}
 
--- what is known of each line
+-- What is known of each line.
 abbrev pub HaveAnswers : Type 0
 HaveAnswers = (bytes : List ℕ) → LineOrFault bytes
 
--- what is known of what is looked for: each stage finds a fault or is passed, and after the last line the fault is one
--- of a line
+-- What is known of what is looked for: each stage finds a fault or is passed, and after the last line the fault is one
+-- of a line.
 pub record IsDecidedReading {S : Type 0} (reading : LineReading S) : Type 0 where
   pub stages : (s : S) (value : Line) → AreDecided (reading.stages s value)
   pub ends : (count : ℕ) (s : S) → AreDecided (reading.ends count s)
   pub lines : (count : ℕ) (s : S) (e : TextError) → IsFirstFault (reading.ends count s) e → IsOfLine e
 
--- a line says something by itself, or is refused by itself
+-- A line says something by itself, or is refused by itself.
 says_or_not : HaveAnswers → (line : List ℕ) → ((value : Line) × Says line value) ⊎ ((why : Reason) × SaysNothing line why)
 says_or_not answers line = elim (dec_le (length line) LINE_LIMIT) [
   | no long ↦ inr (Limit, inl (omega arith, refl))
@@ -50,7 +50,7 @@ taken_or_refused answers reading decided s line = elim (says_or_not answers line
   ]
 ]
 
--- lines come to a state, or to the fault of a line
+-- Lines come to a state, or to the fault of a line.
 abbrev HaveOutcome : {S : Type 0} → LineReading S → S → ℕ → List (List ℕ) → Type 0
 HaveOutcome {S} reading s n lines =
     ((t : S) × ComesToBy reading s n lines (Ok t)) ⊎ ((line : ℕ) × (why : Reason) × ComesToBy reading s n lines (Err (Fault line why)))
@@ -87,7 +87,7 @@ read_or_fault answers reading decided text = elim (outcome answers reading decid
   | inr (line, why, comes) ↦ inr (line, why, inl comes)
 ]
 
--- what is looked for after the last line
+-- What is looked for after the last line.
 label_inside : (count : ℕ) (a : Address) → Dec (IsInside count a)
 label_inside count (Bundle n) = dec_lt n count
 label_inside count (Byte at) = yes tt

@@ -4,7 +4,7 @@ use Rattle.std.specs.List.{AllByRecursion}
 use Rattle.std.specs.BTreeSet.{insert_key}
 use Rattle.asm_build.proofs.Membership.{first_there, later_there, first_or_later, none_there}
 
--- how a comparison answers: by an order, and alike where two keys are the same
+-- How a comparison answers: by an order, and alike where two keys are the same.
 abbrev pub Ways : {K : Type 0} → (K → K → Ordering) → (K → K → Type 0) → K → K → Type 0
 Ways R Before k n = ((R k n ≡ Less) × Before k n) ⊎ (((R k n ≡ Equal) × (k ≡ n)) ⊎ ((R k n ≡ Greater) × Before n k))
 
@@ -12,7 +12,7 @@ pub record IsOrderedBy {K : Type 0} (R : K → K → Ordering) (Before : K → K
   pub way : (k n : K) → Ways R Before k n
   pub after : (k n : K) → Before n k → R k n ≡ Greater
 
--- what a set with one more contains
+-- What a set with one more contains.
 pub put_there : {K : Type 0} (R : K → K → Ordering) (Before : K → K → Type 0) → IsOrderedBy R Before → (k : K) (ns : List K) → Contains (insert_key R ns k) k
 put_there R Before o k [] = first_there k []
 put_there R Before o k (n ∷ ns) = by (o.way k n) (put_there R Before o k ns)
@@ -68,7 +68,7 @@ chain_grows R Before Good o low k (n ∷ ns) l g c = by (o.way k n) (λ more. ch
     by (inr (inl (is, same))) later = rw is c
     by (inr (inr (is, more))) later = rw is (c.0, c.1, later more)
 
--- a key after all others goes to the end
+-- A key after all others goes to the end.
 pub at_end : {K : Type 0} (R : K → K → Ordering) (Before : K → K → Type 0) → IsOrderedBy R Before → (ns : List K) (k : K) → AllByRecursion (λ n. Before n k) ns → insert_key R ns k ≡ ns ++ k ∷ []
 at_end R Before o [] k h = refl
 at_end R Before o (n ∷ ns) k h =

@@ -19,7 +19,7 @@ use Rattle.asm_build.specs.Marks.{IsSound, AreSound, AreAllSound}
 abbrev pub IsInside : ℕ → ℕ → Option Insn → Type 0
 IsInside count n o = IfSome o (λ i. IfSome (displacement i.op) (IsBundleAt count n))
 
--- each instruction of a bundle fits it, and its target is inside
+-- Each instruction of a bundle fits it, and its target is inside.
 slots_sound : (units : List ExecutionUnit) (template count n : ℕ) (slots : Slots) → FitUnits units slots
     → ((slot : ℕ) → IsSome (bundle_insn (Some (record { template = template; slots = slots })) slot) → IsInside count n (bundle_insn (Some (record { template = template; slots = slots })) slot))
     → AreSound count n slots
@@ -41,7 +41,7 @@ program_inside : (p : Program) → EachPlace p.bundles (IsTargetInside p.bundles
 unfolding insn_at
 program_inside p h n slot is = h (record { bundle = n; slot = slot }) is
 
--- the instructions of a program are sound
+-- The instructions of a program are sound.
 pub all_sound : (p : Program) → IsProgram p → AreAllSound (length p.bundles) p.bundles
 all_sound p h n = bundle_sound (length p.bundles) n (slice_get p.bundles n) (h.fit n) (program_inside p h.targets n)
 
@@ -49,6 +49,6 @@ target_of_some : (count n : ℕ) (o : Option ℤ) → IfSome o (IsBundleAt count
 target_of_some count n None h = tt
 target_of_some count n (Some disp) h = h.0
 
--- the target of a sound instruction is no bundle before the first
+-- The target of a sound instruction is no bundle before the first.
 pub target_here : (count n : ℕ) (i : Insn) → IsSound count n i → HasTarget n i.op
 target_here count n i h = target_of_some count n (displacement i.op) h.target

@@ -15,16 +15,16 @@ use Rattle.asm_build.proofs.TextLines.{lines_after}
 abbrev pub Goes : TextParts → ℕ → List ℕ → TextParts → ℕ → Type 0
 Goes s k text to next = (more : List ℕ) (r : Result TextParts TextError) → ComesTo to next (text_lines more) r → ComesTo s k (text_lines (text ++ more)) r
 
--- no text
+-- No text.
 pub stays : (s : TextParts) (k : ℕ) → Goes s k [] s k
 stays s k more r h = h
 
--- one text after another
+-- One text after another.
 pub goes_on : (s t u : TextParts) (k m n : ℕ) (one two : List ℕ) → Goes s k one t m → Goes t m two u n → Goes s k (one ++ two) u n
 goes_on s t u k m n one two f g more r h =
     subst (λ text. ComesTo s k (text_lines text) r) (sym (append_assoc one two more)) (f (two ++ more) r (g more r h))
 
--- a line that says something has only plain bytes
+-- A line that says something has only plain bytes.
 plain_of : (bytes : List ℕ) (value : Line) → reading_of bytes ≡ Ok value → has_only_plain bytes ≡ true
 plain_of bytes value h = of (has_only_plain bytes) refl
   where
@@ -35,7 +35,7 @@ plain_of bytes value h = of (has_only_plain bytes) refl
         refused : Ok value ≡ Err fault.Char → ⊥
         refused e = cc
 
--- one line
+-- One line.
 pub line_goes : (s : TextParts) (k : ℕ) (bytes : List ℕ) (value : Line) → Says bytes value → ArePassed (value_stages s value) → Goes s k (line bytes) (after s k value) (k + 1)
 line_goes s k bytes value says passed more r h =
     subst (λ lines. ComesTo s k lines r) (sym (lines_after bytes more (plain_of bytes value says.reads.reading))) (inr (value, (says, passed), h))

@@ -78,14 +78,14 @@ slots_short most within count n template (slots.Long a b) low sound =
     let lb = line_short (slot_text b n (has_stop template 2)) most (within b n (has_stop template 2) sound.1.listed low) in
     omega (arith, both_short (text_line (slot_text a n false)) (text_line (slot_text b n (has_stop template 2))) (most + 1) (most + 1) la lb)
 
--- the lines of relations
+-- The lines of relations.
 relations_short : (n : ℕ) (rs : List Relation) → AllByRecursion (IsPrinted n) rs → length (relations_text rs) ≤ 26 * length rs
 relations_short n [] h = omega arith
 relations_short n (r ∷ rs) h =
     let here = line_short (relation_text r.p r.q) 25 (relation_is_short r.p r.q (omega (arith, h.0.apart, h.0.static)) h.0.static) in
     omega (arith, here, relations_short n rs h.1, length-append (text_line (relation_text r.p r.q)) (relations_text rs))
 
--- the bytes of a bundle without relations, with its entry and its label
+-- The bytes of a bundle without relations, with its entry and its label.
 abbrev bundle_bytes : ℕ → ℕ
 bundle_bytes most = 3 * (most + 1) + 31
 

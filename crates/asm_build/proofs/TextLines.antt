@@ -10,7 +10,7 @@ use Rattle.asm_lexemes.specs.Bytes.{is_plain_byte, has_only_plain}
 use Rattle.asm_build.specs.CanonicalText.{line}
 use Rattle.asm_build.specs.TextReading.{text_lines}
 
--- each byte of a line that may be read is a plain one
+-- Each byte of a line that may be read is a plain one.
 plain_at : (bytes : List ℕ) (k : ℕ) → has_only_plain bytes ≡ true → k < length bytes → is_plain_byte (slice_index bytes k) ≡ true
 plain_at [] k h less = absurd (omega (arith, less))
 plain_at (c ∷ cs) zero h less = left (is_plain_byte c) _ h
@@ -32,21 +32,21 @@ before_last [] more k h = absurd (omega (arith, h))
 before_last (b ∷ bytes) more zero h = refl
 before_last (b ∷ bytes) more (suc k) h = before_last bytes more k (omega (arith, h))
 
--- a line feed at the end, and none before it: one line
+-- A line feed at the end, and none before it: one line.
 one_line : (bytes : List ℕ) → has_only_plain bytes ≡ true → lines_of (line bytes) ≡ line bytes ∷ []
 one_line bytes h =
     let long = length-append bytes (10 ∷ []) in
     lines-one (line bytes) (omega (arith, long)) (λ k less is.
     no_feed (slice_index bytes k) (plain_at bytes k h (omega (arith, long, less))) (sym (before_last bytes (10 ∷ []) k (omega (arith, long, less))) ∙ is))
 
--- a last byte that is no carriage return stays
+-- A last byte that is no carriage return stays.
 no_cr_kept : (bytes : List ℕ) → has_only_plain bytes ≡ true → no_cr bytes ≡ bytes
 no_cr_kept [] h = refl
 no_cr_kept (c ∷ cs) h =
     let last = slice_index (c ∷ cs) (length (c ∷ cs) - 1) in
     cond-false (ltb 0 (length (c ∷ cs)) && (last == 13)) (take (length (c ∷ cs) - 1) (c ∷ cs)) (c ∷ cs) (and_right (ltb 0 (length (c ∷ cs))) (last == 13) (ne_eqb last 13 (no_return last (plain_at (c ∷ cs) (length (c ∷ cs) - 1) h (omega arith)))))
 
--- the line feed is taken off
+-- The line feed is taken off.
 without_feed : (bytes : List ℕ) → has_only_plain bytes ≡ true → without_terminator (line bytes) ≡ bytes
 without_feed bytes h =
     let long : length (line bytes) ≡ length bytes + 1 = length-append bytes (10 ∷ []) in

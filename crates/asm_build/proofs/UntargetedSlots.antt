@@ -36,7 +36,7 @@ unit_aimed qp x z X slot near l = (aimed_x qp x z l.0, l.1)
 pub fits_aimed : (qp : ℕ) (x : Op) (z : ℤ) (u : ExecutionUnit) (slot : ℕ) → FitsSigned 21 z → Fits (record { qp = qp; op = x }) u slot → Fits (record { qp = qp; op = aimed z x }) u slot
 fits_aimed qp x z u slot near h = record { place = h.place; kind = unit_aimed qp x z u slot near h.kind }
 
--- it fits the same slots
+-- It fits the same slots.
 pub fits_until : (i : Insn) (u : ExecutionUnit) (slot : ℕ) → Fits i u slot → Fits (until_named i) u slot
 fits_until i u slot h =
     let P : Op → Type 0 = λ x. Fits (record { qp = i.qp; op = x }) u slot in

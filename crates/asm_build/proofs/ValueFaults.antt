@@ -9,7 +9,7 @@ use Rattle.asm_build.specs.declared.text_parts.Section.TheVariants as section
 use Rattle.asm_build.specs.TextParts.{TextParts, address_of, value_stages, MayStand, IsIn, numbers_bytes}
 use Rattle.asm_build.proofs.Numbers.{most_numbers, length_numbers}
 
--- what is there is not missing
+-- What is there is not missing.
 pub not_none : {T : Type 0} (o : Option T) → is_some o ≡ true → o ≡ None → ⊥
 not_none None h e = cc
 not_none (Some x) h e = cc
@@ -17,7 +17,7 @@ not_none (Some x) h e = cc
 pub twice_there : (s : TextParts) (name : List ℕ) → MayStand s (line.Label name) → is_some (address_of s.labels name) ≡ true → IsFirstFault (value_stages s (line.Label name)) Twice
 twice_there s name stands again = inr (stands, inl (tt, refl, not_none (address_of s.labels name) again))
 
--- the data of a line have no room
+-- The data of a line have no room.
 pub data_full : (s : TextParts) (size : ℕ) (values : List ℕ) (count most : ℕ) → IsIn section.Data s → count ≡ length values → most ≡ min size 8
     → DATA_LIMIT < length s.bytes + count * most → IsFirstFault (value_stages s (line.Numbers size values)) Limit
 data_full s size values count most stands counted is more =

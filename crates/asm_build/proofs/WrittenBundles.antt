@@ -35,22 +35,22 @@ use Rattle.asm_build.proofs.PrintedLines.{head_says, end_says}
 use Rattle.asm_build.proofs.Taking.{Goes, goes_on, line_goes}
 use Rattle.asm_build.proofs.UntargetedSlots.{until_named, fits_until}
 
--- the slot lines of listed instructions say them
+-- The slot lines of listed instructions say them.
 abbrev pub SlotsSay : Type 0
 SlotsSay = (i : Insn) (n : ℕ) (stop : Bool) → IsListed i → n < 2 ^ 32 → Says (slot_text i n stop) (printed_line i n stop)
 
--- outside a bundle and within one, where bundles are being written
+-- Outside a bundle and within one, where bundles are being written.
 abbrev pub outside : List BundleLines → List EntryLine → List RelationLine → Labels → TextParts
 outside bs es rs ls = record { section = section.Text; current = None; bundles = bs; entries = es; relations = rs; labels = ls; bytes = [] }
 
 abbrev pub inside : OpenBundle → List BundleLines → List EntryLine → List RelationLine → Labels → TextParts
 inside o bs es rs ls = record { section = section.Text; current = Some o; bundles = bs; entries = es; relations = rs; labels = ls; bytes = [] }
 
--- the name of the target of an instruction in the n-th bundle
+-- The name of the target of an instruction in the n-th bundle.
 abbrev pub name_in : ℕ → Insn → Option (List ℕ)
 name_in n i = option_map label_text (target_of n i.op)
 
--- a slot as its printed line has it
+-- A slot as its printed line has it.
 abbrev slot_line : ℕ → ℕ → Insn → Bool → SlotLine
 slot_line k n i stop = record { line = k; insn = until_named i; target = name_in n i; stop = stop }
 
@@ -71,7 +71,7 @@ pub record AreLinesOf (n : ℕ) (b : Bundle) (l : BundleLines) : Type 0 where
   pub bundle : l.bundle ≡ record { template = b.template; slots = slots_until b.slots }
   pub names : HasNames n b.slots l
 
--- one slot line
+-- One slot line.
 slot_goes : SlotsSay → (bs : List BundleLines) (es : List EntryLine) (rs : List RelationLine) (ls : Labels) (k n : ℕ) (o : OpenBundle) (i : Insn) (stop : Bool) → IsListed i → n < 2 ^ 32 → HasSlotRoom o → Fits (until_named i) (next_unit o) (count_of o.slots)
     → Goes (inside o bs es rs ls) k (text_line (slot_text i n stop)) (inside (opened o.name (one_more o.slots (slot_line k n i stop))) bs es rs ls) (k + 1)
 slot_goes say bs es rs ls k n o i stop listed low room fits =
@@ -95,7 +95,7 @@ close_goes bs es rs ls k o l e is =
 unit_at : (s : TemplateName) (us : List ExecutionUnit) (n : ℕ) → units_named s ≡ us → slice_index_or us n X ≡ slice_index_or (units_named s) n X
 unit_at s us n e = ap (λ (vs : List ExecutionUnit). slice_index_or vs n X) (sym e)
 
--- the lines of three slots
+-- The lines of three slots.
 three_goes : SlotsSay → (bs : List BundleLines) (es : List EntryLine) (rs : List RelationLine) (ls : Labels) (k n template : ℕ) (s : TemplateName) (a b c : Insn) (u v w : ExecutionUnit) → units_named s ≡ u ∷ v ∷ w ∷ [] → v ≢ L
     → Fits a u 0 → Fits b v 1 → Fits c w 2 → IsListed a → IsListed b → IsListed c → n < 2 ^ 32
     → Goes (inside (opened s lines.Zero) bs es rs ls) k (slots_text n template (slots.Three a b c))
@@ -140,7 +140,7 @@ closed_long template_name.Mlx template a b is named none last =
     ap (option_map (long a b)) same
 closed_long s template a b is named none last = absurd cc
 
--- the lines of the slots come to an open bundle that is closed as this one
+-- The lines of the slots come to an open bundle that is closed as this one.
 pub record SlotsGo (bs : List BundleLines) (es : List EntryLine) (rs : List RelationLine) (ls : Labels) (k n template : ℕ) (s : TemplateName) (contents : Slots) : Type 0 where
   pub open_bundle : OpenBundle
   pub next : ℕ

@@ -18,11 +18,11 @@ use Rattle.asm_build.proofs.PrintedNumbers.{hex_text, more_text, numbers_text, n
 use Rattle.asm_build.proofs.Taking.{Goes, stays, goes_on, line_goes}
 use Rattle.asm_build.proofs.WrittenBundles.{outside}
 
--- outside a bundle, where data are being written
+-- Outside a bundle, where data are being written.
 abbrev pub in_data : List BundleLines → List EntryLine → List RelationLine → Labels → List ℕ → TextParts
 in_data bs es rs ls bytes = record { section = section.Data; current = None; bundles = bs; entries = es; relations = rs; labels = ls; bytes = bytes }
 
--- the line feed after a word, where it has one
+-- The line feed after a word, where it has one.
 abbrev end_text : ℕ → List ℕ → List ℕ
 end_text k ws = if (k % 8 == 7) || is_nothing ws then 10 ∷ [] else []
 
@@ -55,7 +55,7 @@ rest_of_line (suc room) k (w ∷ ws) h =
     ∙ sym (append_assoc (44 ∷ hex_text w) (more_text (take room ws)) (10 ∷ words_text (k + 1 + 1 + room) (drop room ws)))
     ∙ ap (λ m. ((44 ∷ hex_text w) ++ more_text (take room ws)) ++ 10 ∷ words_text m (drop room ws)) same
 
--- a line of words, and the lines of the rest
+-- A line of words, and the lines of the rest.
 words_by_line : (k w : ℕ) (ws : List ℕ) → k % 8 ≡ 0 → words_text k (w ∷ ws) ≡ text_line (numbers_text w (take 7 ws)) ++ words_text (k + 8) (drop 7 ws)
 words_by_line k w ws h =
     let head = codes "data8 " ++ hex_text w in
@@ -88,7 +88,7 @@ pub record DataGoes (from : TextParts) (bs : List BundleLines) (es : List EntryL
   pub next : ℕ
   pub goes : Goes from line text (in_data bs es rs ls bytes) next
 
--- the lines of words
+-- The lines of words.
 words_go : (fuel : ℕ) (bs : List BundleLines) (es : List EntryLine) (rs : List RelationLine) (ls : Labels) (bytes : List ℕ) (line k : ℕ) (ws : List ℕ) → length ws ≤ fuel → k % 8 ≡ 0 → AreWords ws → length bytes + length (numbers_bytes 8 ws) ≤ DATA_LIMIT
     → DataGoes (in_data bs es rs ls bytes) bs es rs ls line (words_text k ws) (bytes ++ numbers_bytes 8 ws)
 words_go fuel bs es rs ls bytes line k [] short eights small room = record { next = line; goes = subst (λ all. Goes (in_data bs es rs ls bytes) line [] (in_data bs es rs ls all) line) (sym (append-nil bytes)) (stays (in_data bs es rs ls bytes) line) }

@@ -28,7 +28,7 @@ use Rattle.asm_build.proofs.Soundness.{all_sound}
 use Rattle.asm_build.proofs.Taking.{Goes, stays, goes_on, line_goes}
 use Rattle.asm_build.proofs.WrittenBundles.{SlotsSay, outside, AreLinesOf, bundle_goes}
 
--- lines of bundles, the first of which is the n-th
+-- Lines of bundles, the first of which is the n-th.
 abbrev pub AreAllLinesOf : ℕ → List Bundle → List BundleLines → Type 0
 AreAllLinesOf n [] [] = Unit {0}
 AreAllLinesOf n (b ∷ bs) (l ∷ ls) = AreLinesOf n b l × AreAllLinesOf (n + 1) bs ls
@@ -76,7 +76,7 @@ label_goes : (is : Bool) (bs : List BundleLines) (es : List EntryLine) (rs : Lis
 label_goes true bs es rs ls k n low new = line_goes (outside bs es rs ls) k (label_text n ++ codes ":") (line.Label (label_text n)) (label_says n low) (refl, (new, (tt, (tt, (tt, tt)))))
 label_goes false bs es rs ls k n low new = stays (outside bs es rs ls) k
 
--- the entry lines with that of the n-th bundle
+-- The entry lines with that of the n-th bundle.
 entry_lines_next : (is : Bool) (es : List EntryLine) (before after : List ℕ) (k n : ℕ) → map (λ (e : EntryLine). e.name) es ≡ map label_text before → after ≡ before ++ (if is then n ∷ [] else [])
     → map (λ (e : EntryLine). e.name) (entry_if is es k n) ≡ map label_text after
 entry_lines_next true es before after k n h grown = map-append (λ (e : EntryLine). e.name) es (record { line = k; name = label_text n } ∷ []) ∙ ap (λ xs. xs ++ label_text n ∷ []) h ∙ sym (ap (map label_text) grown ∙ map-append label_text before (n ∷ []))
@@ -96,7 +96,7 @@ pub record ReadsOn (entries targets : List ℕ) (relations : List Relation) (cou
   pub goes : Goes (outside bs es rs ls) k text (outside bundles entry_lines relation_lines labels) next
   pub so_far : SoFar entries targets relations count n done bundles entry_lines relation_lines labels
 
--- one bundle more
+-- One bundle more.
 one_goes : SlotsSay → (entries targets : List ℕ) (relations : List Relation) (count k n : ℕ) (done : List Bundle) (bs : List BundleLines) (es : List EntryLine) (rs : List RelationLine) (ls : Labels) (b : Bundle) → Rise 1 entries → BundlesFrom 0 relations → AllByRecursion (IsPrinted n) (relations_at relations n) → n < count → count ≤ BUNDLE_LIMIT → IsBundle b → AreSound count n b.slots
     → SoFar entries targets relations count n done bs es rs ls → ReadsOn entries targets relations count k bs es rs ls (bundle_text entries targets relations n b) (n + 1) (done ++ b ∷ [])
 one_goes say entries targets relations count k n done bs es rs ls b rise order printed less few fit sound h =
@@ -136,7 +136,7 @@ one_goes say entries targets relations count k n done bs es rs ls b rise order p
       };
     }
 
--- bundles, the first of which is the n-th, fit and are sound
+-- Bundles, the first of which is the n-th, fit and are sound.
 abbrev pub AreGood : ℕ → ℕ → List Bundle → Type 0
 AreGood count n [] = Unit {0}
 AreGood count n (b ∷ bs) = (IsBundle b × AreSound count n b.slots) × AreGood count (n + 1) bs
@@ -153,7 +153,7 @@ good_from count n (b ∷ bs) fit sound =
 zero_more : (n : ℕ) → n ≡ 0 + n
 zero_more n = omega arith
 
--- those of a program do
+-- Those of a program do.
 pub good_of : (p : Program) → IsProgram p → AreGood (length p.bundles) 0 p.bundles
 good_of p h = good_from (length p.bundles) 0 p.bundles h.fit (λ i. subst (λ m. IfSome (slice_get p.bundles i) (λ b. AreSound (length p.bundles) m b.slots)) (zero_more i) (all_sound p h i))
 

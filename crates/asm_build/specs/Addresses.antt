@@ -14,11 +14,11 @@ of_bundle n = Bundle n
 abbrev pub of_byte : ℕ → Address
 of_byte at = Byte at
 
--- how far a direct branch or check reaches, in bundles: its displacement has 21 bits with its sign
+-- How far a direct branch or check reaches, in bundles: its displacement has 21 bits with its sign.
 abbrev pub reach : ℕ
 reach = 2 ^ 20
 
--- a bundle that each other one reaches, or an address that data may have, or their end
+-- A bundle that each other one reaches, or an address that data may have, or their end.
 abbrev pub IsReachable : Address → Type 0
 IsReachable (Bundle n) = n < reach
 IsReachable (Byte at) = at ≤ DATA_LIMIT

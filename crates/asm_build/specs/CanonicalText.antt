@@ -12,7 +12,7 @@ use Rattle.ia_program.specs.Programs.{Program, relations_at}
 use Rattle.ia_program.specs.Templates.{units_of, stops_of}
 use Rattle.asm_printing.specs.SlotTexts.{label_text, slot_text, target_of}
 
--- the number is one of them
+-- The number is one of them.
 abbrev pub is_among : List ℕ → ℕ → Bool
 is_among numbers n = list_any (λ m. m == n) numbers
 
@@ -20,24 +20,24 @@ abbrev pub listed_once : Option ℕ → List ℕ
 listed_once None = []
 listed_once (Some n) = n ∷ []
 
--- the targets of the instructions of the n-th bundle, by slot
+-- The targets of the instructions of the n-th bundle, by slot.
 abbrev pub bundle_targets : ℕ → Slots → List ℕ
 bundle_targets n (Three a b c) = listed_once (target_of n a.op) ++ (listed_once (target_of n b.op) ++ listed_once (target_of n c.op))
 bundle_targets n (Long first long) = listed_once (target_of n first.op) ++ listed_once (target_of n long.op)
 
--- the targets of bundles, the first of which is the n-th
+-- The targets of bundles, the first of which is the n-th.
 abbrev pub targets_from : ℕ → List Bundle → List ℕ
 targets_from n [] = []
 targets_from n (b ∷ bs) = bundle_targets n b.slots ++ targets_from (n + 1) bs
 
--- a stop of the template follows the slot
+-- A stop of the template follows the slot.
 abbrev pub has_stop : ℕ → ℕ → Bool
 has_stop template slot = is_among (stops_of template) slot
 
 abbrev pub line : List ℕ → List ℕ
 line text = text ++ 10 ∷ []
 
--- the lines of the slots; the stop of a long instruction follows slot 2 of its template
+-- The lines of the slots; the stop of a long instruction follows slot 2 of its template.
 abbrev pub slots_text : ℕ → ℕ → Slots → List ℕ
 slots_text n template (Three a b c) =
     line (slot_text a n (has_stop template 0)) ++ (line (slot_text b n (has_stop template 1)) ++ line (slot_text c n (has_stop template 2)))
@@ -59,7 +59,7 @@ head_text template = line (codes "{ ." ++ map unit_letter (units_of template))
 abbrev pub relation_text : ℕ → ℕ → List ℕ
 relation_text p q = codes ".pred.rel \"mutex\",p" ++ decimal p ++ codes ",p" ++ decimal q
 
--- the lines of relations
+-- The lines of relations.
 abbrev pub relations_text : List Relation → List ℕ
 relations_text [] = []
 relations_text (r ∷ rs) = line (relation_text r.p r.q) ++ relations_text rs
@@ -73,7 +73,7 @@ marked_text entry target relations n b =
     ++ (relations_text relations
     ++ (head_text b.template ++ (slots_text n b.template b.slots ++ line (codes "}")))))
 
--- the text of the n-th bundle of a program with these entries, targets and relations
+-- The text of the n-th bundle of a program with these entries, targets and relations.
 abbrev pub bundle_text : List ℕ → List ℕ → List Relation → ℕ → Bundle → List ℕ
 bundle_text entries targets relations n b =
     marked_text (is_among entries n) (is_among targets n) (relations_at relations n) n b
@@ -83,11 +83,11 @@ bundles_text entries targets relations n [] = []
 bundles_text entries targets relations n (b ∷ bs) =
     bundle_text entries targets relations n b ++ bundles_text entries targets relations (n + 1) bs
 
--- a word of eight bytes, the lowest first
+-- A word of eight bytes, the lowest first.
 abbrev pub data_word : ℕ → ℕ → ℕ → ℕ → ℕ → ℕ → ℕ → ℕ → ℕ
 data_word a b c d e f g h = a + 256 * (b + 256 * (c + 256 * (d + 256 * (e + 256 * (f + 256 * (g + 256 * h))))))
 
--- the words of data, whose length is a multiple of eight
+-- The words of data, whose length is a multiple of eight.
 abbrev pub words_of : List ℕ → List ℕ
 words_of (a ∷ b ∷ c ∷ d ∷ e ∷ f ∷ g ∷ h ∷ rest) = data_word a b c d e f g h ∷ words_of rest
 words_of _ = []
@@ -107,6 +107,6 @@ abbrev pub data_text : List ℕ → List ℕ
 data_text [] = []
 data_text (b ∷ bytes) = line (codes ".data") ++ words_text 0 (words_of (b ∷ bytes))
 
--- the canonical text
+-- The canonical text.
 abbrev pub canonical_text : Program → List ℕ
 canonical_text p = bundles_text p.entries (targets_from 0 p.bundles) p.relations 0 p.bundles ++ data_text p.bytes

@@ -19,7 +19,7 @@ use Rattle.asm_build.specs.OpenSlots as slots
 use Rattle.asm_build.specs.declared.draft.SlotName.{SlotName}
 use Rattle.asm_build.specs.TemplateNames.{units_named, template_of}
 
--- the unit that an instruction without a unit letter takes from its slot: a long one's is X
+-- The unit that an instruction without a unit letter takes from its slot: a long one's is X.
 abbrev pub letter_of : ExecutionUnit → ExecutionUnit
 letter_of unit.L = unit.X
 letter_of u = u
@@ -31,7 +31,7 @@ lettered u (op.Hint v imm) = op.Hint u imm
 lettered u (op.ChkS v r2 disp) = op.ChkS u r2 disp
 lettered u x = x
 
--- the instruction of a draft in a slot of this unit
+-- The instruction of a draft in a slot of this unit.
 abbrev pub completed : Draft → ExecutionUnit → Insn
 completed d u =
     if d.bare then record { qp = d.insn.qp; op = lettered (letter_of u) d.insn.op } else d.insn
@@ -47,7 +47,7 @@ count_of (slots.One a) = 1
 count_of (slots.Two a b) = 2
 count_of (slots.Three a b c) = 3
 
--- there is no fourth
+-- There is no fourth.
 abbrev pub one_more : SlotLines → SlotLine → SlotLines
 one_more slots.Zero s = slots.One s
 one_more (slots.One a) s = slots.Two a s
@@ -57,7 +57,7 @@ one_more (slots.Three a b c) s = slots.Three a b c
 abbrev pub line_stopped : SlotLine → SlotLine
 line_stopped s = record { line = s.line; insn = s.insn; target = s.target; stop = true }
 
--- a stop after the last
+-- A stop after the last.
 abbrev pub last_stopped : SlotLines → SlotLines
 last_stopped slots.Zero = slots.Zero
 last_stopped (slots.One a) = slots.One (line_stopped a)
@@ -81,22 +81,22 @@ HasRoomIn s (slots.One a) = ⊤
 HasRoomIn s (slots.Two a b) = IsShort s
 HasRoomIn s (slots.Three a b c) = ⊥
 
--- one more slot line may follow: three, or two where the second is a long one
+-- One more slot line may follow: three, or two where the second is a long one.
 abbrev pub HasSlotRoom : OpenBundle → Type 0
 HasSlotRoom o = HasRoomIn o.name o.slots
 
--- the unit of a slot
+-- The unit of a slot.
 abbrev pub unit_at : TemplateName → ℕ → ExecutionUnit
 unit_at s slot = slice_index_or (units_named s) slot unit.X
 
 abbrev pub next_unit : OpenBundle → ExecutionUnit
 next_unit o = unit_at o.name (count_of o.slots)
 
--- the instruction fits the next slot
+-- The instruction fits the next slot.
 abbrev pub FitsNext : OpenBundle → Draft → Type 0
 FitsNext o d = Fits (completed d (next_unit o)) (next_unit o) (count_of o.slots)
 
--- the instruction of a slot line fits a slot
+-- The instruction of a slot line fits a slot.
 abbrev pub FitsAt : TemplateName → ℕ → SlotLine → Type 0
 FitsAt s slot l = Fits l.insn (unit_at s slot) slot
 
@@ -107,12 +107,12 @@ AreFitting s (slots.One a) = FitsAt s 0 a
 AreFitting s (slots.Two a b) = FitsAt s 0 a × FitsAt s 1 b
 AreFitting s (slots.Three a b c) = FitsAt s 0 a × FitsAt s 1 b × FitsAt s 2 c × IsShort s
 
--- the bundle with one more slot line
+-- The bundle with one more slot line.
 abbrev pub added : OpenBundle → ℕ → Draft → Bool → OpenBundle
 added o line d stop =
     record { name = o.name; slots = one_more o.slots (record { line = line; insn = completed d (next_unit o); target = d.target; stop = stop }) }
 
--- the bundle with a stop after its last slot line
+-- The bundle with a stop after its last slot line.
 abbrev pub stopped : OpenBundle → OpenBundle
 stopped o = record { name = o.name; slots = last_stopped o.slots }
 

@@ -6,19 +6,19 @@ use Rattle.asm_build.specs.declared.reason.TextError.{TextError}
 use Rattle.asm_build.specs.declared.reason.TextError.TheVariants.{Fault}
 use Rattle.asm_build.specs.TextReading.{Reads, HasTextFault}
 
--- a text reads as at most one program
+-- A text reads as at most one program.
 abbrev pub OneTextProgram : Type 0
 OneTextProgram = (text : List ℕ) (p q : Program) → Reads text p → Reads text q → p ≡ q
 
--- a text has at most one first fault
+-- A text has at most one first fault.
 abbrev pub OneTextFault : Type 0
 OneTextFault = (text : List ℕ) (e f : TextError) → HasTextFault text e → HasTextFault text f → e ≡ f
 
--- a text that reads as a program has none
+-- A text that reads as a program has none.
 abbrev pub NoFaultWhereRead : Type 0
 NoFaultWhereRead = (text : List ℕ) (p : Program) (e : TextError) → Reads text p → HasTextFault text e → ⊥
 
--- the text reads as a program, or a line and a reason are its first fault
+-- The text reads as a program, or a line and a reason are its first fault.
 abbrev pub TextOrFault : List ℕ → Type 0
 TextOrFault text =
     ((p : Program) × Reads text p) ⊎ ((line : ℕ) × (reason : Reason) × HasTextFault text (Fault line reason))

@@ -35,7 +35,7 @@ AreSound count n (Long first long) = IsSound count n first × IsSound count n lo
 abbrev pub AreAllSound : ℕ → List Bundle → Type 0
 AreAllSound count bundles = (n : ℕ) → IfSome (slice_get bundles n) (λ b. AreSound count n b.slots)
 
--- the text of bundles, the first of which is the n-th
+-- The text of bundles, the first of which is the n-th.
 abbrev pub marked_texts : List Bool → List Bool → List Relation → ℕ → List Bundle → List ℕ
 marked_texts entries targets relations n [] = []
 marked_texts entries targets relations n (b ∷ bs) =

@@ -5,7 +5,7 @@ use Rattle.asm_lexemes.specs.declared.fault.LineFault.TheVariants as fault
 use Rattle.asm_build.specs.declared.reason.Reason.{Reason}
 use Rattle.asm_build.specs.declared.reason.Reason.TheVariants as reason
 
--- the reason in words, as it is printed
+-- The reason in words, as it is printed.
 abbrev pub reason_text : Reason → List ℕ
 reason_text reason.Char = codes "char"
 reason_text reason.Name = codes "name"
@@ -23,7 +23,7 @@ reason_text reason.Misplaced = codes "misplaced"
 reason_text reason.Empty = codes "empty"
 reason_text reason.Relation = codes "relation"
 
--- the reason for which a line is refused by itself
+-- The reason for which a line is refused by itself.
 abbrev pub reason_of : LineFault → Reason
 reason_of fault.Char = reason.Char
 reason_of fault.Name = reason.Name

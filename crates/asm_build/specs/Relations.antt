@@ -12,11 +12,11 @@ use Rattle.asm_build.specs.declared.reason.Reason.TheVariants as reason
 use Rattle.asm_build.specs.declared.reason.TextError.{TextError}
 use Rattle.asm_build.specs.declared.reason.TextError.TheVariants.{Fault}
 
--- the order of relations: by what they are of, then by the lower predicate, then by the higher one
+-- The order of relations: by what they are of, then by the lower predicate, then by the higher one.
 abbrev pub relation_cmp : Relation → Relation → Ordering
 relation_cmp = then_cmp (on (λ (r : Relation). r.bundle) nat_cmp) (then_cmp (on (λ (r : Relation). r.p) nat_cmp) (on (λ (r : Relation). r.q) nat_cmp))
 
--- the relations of a bundle between a predicate and the higher ones of these
+-- The relations of a bundle between a predicate and the higher ones of these.
 abbrev pub relations_above : ℕ → ℕ → List ℕ → List Relation
 relations_above bundle p [] = []
 relations_above bundle p (q ∷ qs) =
@@ -26,7 +26,7 @@ relations_above bundle p (q ∷ qs) =
 abbrev pub relations_among : ℕ → List ℕ → List Relation
 relations_among bundle ps = flat_map (λ p. relations_above bundle p ps) ps
 
--- relations in their order, with more of them
+-- Relations in their order, with more of them.
 abbrev pub with_relations : List Relation → List Relation → List Relation
 with_relations before [] = before
 with_relations before (r ∷ rs) = with_relations (insert_key relation_cmp before r) rs

@@ -8,7 +8,7 @@ use Rattle.asm_reading.specs.declared.line.TemplateName.{TemplateName}
 use Rattle.asm_reading.specs.declared.line.TemplateName.TheVariants as template_name
 use Rattle.asm_build.specs.CanonicalText.{unit_letter}
 
--- the units of the three slots
+-- The units of the three slots.
 abbrev pub units_named : TemplateName → List ExecutionUnit
 units_named template_name.Mii = M ∷ I ∷ I ∷ []
 units_named template_name.Mlx = M ∷ L ∷ X ∷ []
@@ -21,17 +21,17 @@ units_named template_name.Bbb = B ∷ B ∷ B ∷ []
 units_named template_name.Mmb = M ∷ M ∷ B ∷ []
 units_named template_name.Mfb = M ∷ F ∷ B ∷ []
 
--- the slots that are marked
+-- The slots that are marked.
 abbrev pub marked_slots : Bool → Bool → Bool → List ℕ
 marked_slots first second third =
     (if first then 0 ∷ [] else []) ++ ((if second then 1 ∷ [] else []) ++ (if third then 2 ∷ [] else []))
 
--- a code's template has these units, by their letters, and these are the slots that a stop follows
+-- A code's template has these units, by their letters, and these are the slots that a stop follows.
 abbrev pub is_shaped : List ExecutionUnit → List ℕ → ℕ → Bool
 is_shaped units stops code =
     bytes_eq (map unit_letter (units_of code)) (map unit_letter units) && bytes_eq (stops_of code) stops
 
--- the numbers below another
+-- The numbers below another.
 abbrev pub below : ℕ → List ℕ
 below zero = []
 below (suc n) = n ∷ below n

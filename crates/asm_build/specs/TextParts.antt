@@ -26,7 +26,7 @@ use Rattle.asm_build.specs.declared.reason.TextError.TheVariants as error
 use Rattle.asm_build.specs.Addresses.{IsInside, IsReachable}
 use Rattle.asm_build.specs.Drafts.{OpenBundle, HasSlot, HasSlotRoom, FitsNext, added, stopped, closed, IsWhole}
 
--- labels and what they name, in the order of the labels
+-- Labels and what they name, in the order of the labels.
 abbrev pub Labels : Type 0
 Labels = List (List ℕ × Address)
 
@@ -41,16 +41,16 @@ pub record TextParts : Type 0 where
   pub labels : Labels
   pub bytes : List ℕ
 
--- the bundle that is open, where one is
+-- The bundle that is open, where one is.
 abbrev pub current_of : Bool → OpenBundle → Option OpenBundle
 current_of true o = Some o
 current_of false o = None
 
--- what no lines say
+-- What no lines say.
 abbrev pub start : TextParts
 start = record { section = section.Text; current = None; bundles = []; entries = []; relations = []; labels = []; bytes = [] }
 
--- what a label names
+-- What a label names.
 abbrev pub address_of : Labels → List ℕ → Option Address
 address_of labels name = lookup (is_at (slice_cmp nat_cmp name)) labels
 
@@ -117,7 +117,7 @@ after s n line.Stop = with_open s (option_map stopped s.current)
 after s n line.Close = with_bundle s (closed_of s.current)
 after s n value = after_outside s (length s.bundles) n value
 
--- outside a bundle, where bundles or data are being written
+-- Outside a bundle, where bundles or data are being written.
 pub record IsIn (section : Section) (s : TextParts) : Type 0 where
   pub closed : s.current ≡ None
   pub same : s.section ≡ section
@@ -135,23 +135,23 @@ MayStand s line.Stop = IsSomeAnd s.current HasSlot
 MayStand s line.Close = IsSome s.current
 MayStand s value = s.current ≡ None
 
--- a label is not there yet
+-- A label is not there yet.
 abbrev pub IsNew : TextParts → Line → Type 0
 IsNew s (line.Label name) = address_of s.labels name ≡ None
 IsNew s value = ⊤
 
--- the open bundle has room for one more slot, and is whole where it is closed
+-- The open bundle has room for one more slot, and is whole where it is closed.
 abbrev pub HasTemplate : TextParts → Line → Type 0
 HasTemplate s (line.Slot draft stop) = IfSome s.current HasSlotRoom
 HasTemplate s line.Close = IfSome s.current IsWhole
 HasTemplate s value = ⊤
 
--- an instruction fits its slot
+-- An instruction fits its slot.
 abbrev pub FitsSlot : TextParts → Line → Type 0
 FitsSlot s (line.Slot draft stop) = IfSome s.current (λ o. FitsNext o draft)
 FitsSlot s value = ⊤
 
--- there is room for a bundle and for data
+-- There is room for a bundle and for data.
 abbrev pub HasRoom : TextParts → Line → Type 0
 HasRoom s (line.Open name) = length s.bundles < BUNDLE_LIMIT
 HasRoom s (line.Numbers size values) = length s.bytes + length (numbers_bytes size values) ≤ DATA_LIMIT
@@ -168,7 +168,7 @@ value_stages s value =
     ∷ unless (HasRoom s value) Limit
     ∷ []
 
--- the error of what the n-th line says: its first fault, or want of memory
+-- The error of what the n-th line says: its first fault, or want of memory.
 abbrev pub IsValueError : TextParts → ℕ → Line → TextError → Type 0
 IsValueError s n value e =
     (e ≡ error.Memory) ⊎ ((reason : Reason) × (e ≡ error.Fault n reason) × IsFirstFault (value_stages s value) reason)
@@ -177,7 +177,7 @@ IsValueError s n value e =
 abbrev pub AreLabelsBelow : ℕ → TextParts → Type 0
 AreLabelsBelow count s = AllByRecursion (IsInside count) (values_of s.labels)
 
--- each label of the text has a bundle
+-- Each label of the text has a bundle.
 abbrev pub AreLabelsInside : TextParts → Type 0
 AreLabelsInside s = AreLabelsBelow (length s.bundles) s
 

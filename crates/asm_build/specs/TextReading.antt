@@ -19,7 +19,7 @@ use Rattle.asm_build.specs.Reasons.{reason_of}
 use Rattle.asm_build.specs.Relations.{relation_stages}
 use Rattle.asm_build.specs.TextParts.{TextParts, start, after, value_stages, AreLabelsInside}
 
--- the lines of a text, without the line feed, or the carriage return and line feed, that ends each
+-- The lines of a text, without the line feed, or the carriage return and line feed, that ends each.
 abbrev pub text_lines : List ℕ → List (List ℕ)
 text_lines text = map without_terminator (lines_of text)
 
@@ -69,11 +69,11 @@ HasFaultBy {State} reading text e =
     ComesToBy reading reading.start 1 (text_lines text) (Err e)
     ⊎ ((s : State) × AllSayBy reading text s × IsFirstFault (reading.ends (length (text_lines text)) s) e)
 
--- the stage whose fault is the one that is found, where there is one
+-- The stage whose fault is the one that is found, where there is one.
 abbrev pub found : Option TextError → Stage TextError
 found o = first TextError (λ e. e) (λ e. o ≡ Some e) (o ≡ None)
 
--- the stage whose fault is the first that these find
+-- The stage whose fault is the first that these find.
 abbrev pub first_of : List (Stage TextError) → Stage TextError
 first_of stages = first TextError (λ e. e) (IsFirstFault stages) (ArePassed stages)
 

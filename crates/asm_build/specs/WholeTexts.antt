@@ -28,17 +28,17 @@ AreSaid [] [] = ⊤
 AreSaid (bytes ∷ lines) (value ∷ values) = Says bytes value × AreSaid lines values
 AreSaid lines values = ⊥
 
--- the bytes of a data line
+-- The bytes of a data line.
 abbrev pub line_data : Line → List ℕ
 line_data (line.Numbers size values) = numbers_bytes size values
 line_data (line.Skip count) = replicate count 0
 line_data value = []
 
--- the data on lines, in order
+-- The data on lines, in order.
 abbrev pub data_in : List Line → List ℕ
 data_in lines = flat_map line_data lines
 
--- the name of the label that a line `.entry` has
+-- The name of the label that a line `.entry` has.
 abbrev pub line_entry : Line → List (List ℕ)
 line_entry (line.Entry name) = name ∷ []
 line_entry value = []
@@ -54,7 +54,7 @@ pub record SlotSaid : Type 0 where
   pub target : Option (List ℕ)
   pub stop : Bool
 
--- on the lines that follow a slot, a stop stands before the next slot and the `}`
+-- On the lines that follow a slot, a stop stands before the next slot and the `}`.
 abbrev pub is_stopped : List Line → Bool
 is_stopped [] = false
 is_stopped (line.Stop ∷ rest) = true
@@ -62,7 +62,7 @@ is_stopped (line.Slot draft stop ∷ rest) = false
 is_stopped (line.Close ∷ rest) = false
 is_stopped (value ∷ rest) = is_stopped rest
 
--- the slots of a bundle with this template's name, on the lines up to its `}`; the first is slot k
+-- The slots of a bundle with this template's name, on the lines up to its `}`; the first is slot k.
 abbrev pub slots_in : TemplateName → ℕ → List Line → List SlotSaid
 slots_in name k [] = []
 slots_in name k (line.Slot draft stop ∷ rest) =
@@ -70,13 +70,13 @@ slots_in name k (line.Slot draft stop ∷ rest) =
 slots_in name k (line.Close ∷ rest) = []
 slots_in name k (value ∷ rest) = slots_in name k rest
 
--- the bundles whose `{` stands on lines, in order: the slots and the template's name of each
+-- The bundles whose `{` stands on lines, in order: the slots and the template's name of each.
 abbrev pub bundles_in : List Line → List (List SlotSaid × TemplateName)
 bundles_in [] = []
 bundles_in (line.Open name ∷ rest) = (slots_in name 0 rest, name) ∷ bundles_in rest
 bundles_in (value ∷ rest) = bundles_in rest
 
--- the section after lines: that of the last `.text` or `.data` on them, or else the one before them
+-- The section after lines: that of the last `.text` or `.data` on them, or else the one before them.
 abbrev pub section_after : Section → List Line → Section
 section_after before [] = before
 section_after before (line.Text ∷ rest) = section_after section.Text rest
@@ -97,12 +97,12 @@ abbrev pub IsLabel : List Line → List ℕ → Address → Type 0
 IsLabel lines name a =
     (before : List Line) × (after : List Line) × (lines ≡ before ++ line.Label name ∷ after) × (a ≡ address_after before)
 
--- the operation of a slot of the n-th bundle, with what the label names whose name it has
+-- The operation of a slot of the n-th bundle, with what the label names whose name it has.
 abbrev pub IsOpSaid : List Line → ℕ → Op → Option (List ℕ) → Op → Type 0
 IsOpSaid lines n x None y = y ≡ x
 IsOpSaid lines n x (Some name) y = (a : Address) × IsLabel lines name a × (addressed x a n ≡ Some y)
 
--- the instruction that a slot of the n-th bundle says
+-- The instruction that a slot of the n-th bundle says.
 pub record IsInsnSaid (lines : List Line) (n : ℕ) (slot : SlotSaid) (i : Insn) : Type 0 where
   pub qp : i.qp ≡ slot.insn.qp
   pub op : IsOpSaid lines n slot.insn.op slot.target i.op
@@ -125,7 +125,7 @@ AreBundlesSaid lines n [] [] = ⊤
 AreBundlesSaid lines n (said ∷ more) (b ∷ bs) = IsBundleSaid lines n said.0 said.1 b × AreBundlesSaid lines (n + 1) more bs
 AreBundlesSaid lines n more bs = ⊥
 
--- the n-th bundle is not the first, and a line `.entry` has the name of a label that names it
+-- The n-th bundle is not the first, and a line `.entry` has the name of a label that names it.
 abbrev pub IsDeclared : List Line → ℕ → Type 0
 IsDeclared lines n = (1 ≤ n) × (name : List ℕ) × Contains (entries_in lines) name × IsLabel lines name (address.Bundle n)
 
@@ -166,6 +166,6 @@ pub record Means (text : List ℕ) (p : Program) : Type 0 where
   pub said : AreSaid (text_lines text) lines
   pub program : IsProgramSaid lines p
 
--- a text that reads as a program means it
+-- A text that reads as a program means it.
 abbrev pub MeansWhatItReads : List ℕ → Program → Type 0
 MeansWhatItReads text p = Reads text p → Means text p

@@ -7,20 +7,20 @@ use Rattle.asm_forms.specs.declared.items.NumberField.TheVariants.{Imm8, Imm9, I
 use Rattle.asm_forms.specs.Items.{within, has_room}
 use Rattle.asm_canonical.specs.Canonical.{negative}
 
--- how far from 0 a signed number of this width is at most
+-- How far from 0 a signed number of this width is at most.
 pub magnitude_within : (width : ℕ) (z : ℤ) → FitsSigned width z → unsigned_abs z ≤ 2 ^ (width - 1)
 magnitude_within width (pos n) h = omega (arith, h)
 magnitude_within width (negsuc n) h = omega (arith, h)
 
--- what is at most a limit is below what is above the limit
+-- What is at most a limit is below what is above the limit.
 pub is_below : (m k bound : ℕ) → m ≤ k → k < bound → ltb m bound ≡ true
 is_below m k bound h l = le-leb (suc m) bound (omega (arith, h, l))
 
--- a signed number's magnitude is below a bound above its width
+-- A signed number's magnitude is below a bound above its width.
 pub is_short : (width bound : ℕ) (z : ℤ) → FitsSigned width z → 2 ^ (width - 1) < bound → ltb (unsigned_abs z) bound ≡ true
 is_short width bound z h l = is_below (unsigned_abs z) (2 ^ (width - 1)) bound (magnitude_within width z h) l
 
--- a signed number is in the range of a field of its width
+-- A signed number is in the range of a field of its width.
 pub is_within : (width below above : ℕ) (z : ℤ) → FitsSigned width z → 2 ^ (width - 1) ≡ below → suc above ≡ below → within (negative z) (unsigned_abs z) below above ≡ true
 is_within width below above (pos n) h b a = le-leb n above (omega (arith, h, b, a))
 is_within width below above (negsuc n) h b a = le-leb (suc n) below (omega (arith, h, b))
@@ -40,7 +40,7 @@ has_imm22 z h = is_within 22 2097152 2097151 z h refl refl
 pub has_tag : (z : ℤ) → FitsSigned 9 z → has_room Tag (negative z) (unsigned_abs z) ≡ true
 has_tag z h = is_within 9 256 255 z h refl refl
 
--- a number of the rotating predicates is a multiple of 65536
+-- A number of the rotating predicates is a multiple of 65536.
 pub is_multiple : (z : ℤ) → FitsSigned 44 z → twos 44 z / 1 % 65536 ≡ 0 → unsigned_abs z % 65536 ≡ 0
 is_multiple (pos n) h e = omega (arith, h, e)
 is_multiple (negsuc n) h e = omega (arith, h, e)
@@ -50,7 +50,7 @@ has_rotating_mask z h e =
     let w : within (negative z) (unsigned_abs z) 8796093022208 8796093022207 ≡ true = is_within 44 8796093022208 8796093022207 z h refl refl in
     rw (w, is_multiple z h e) refl
 
--- an increment has room in its field, and is at most 16 without its sign
+-- An increment has room in its field, and is at most 16 without its sign.
 pub has_increment : (z : ℤ) → IsIncrement z → has_room Increment (negative z) (unsigned_abs z) ≡ true
 has_increment z (inl e) = rw e refl
 has_increment z (inr (inl e)) = rw e refl

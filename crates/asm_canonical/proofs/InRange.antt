@@ -33,7 +33,7 @@ use Rattle.insn_rows.proofs.RowWords.{well_made}
 use Rattle.asm_canonical.specs.Canonical.{value_token, operand_of, written}
 use Rattle.asm_canonical.proofs.FieldRanges.{magnitude_within, increment_within}
 
--- a value in the range of its kind
+-- A value in the range of its kind.
 abbrev pub IsInRange : Value → Type 0
 IsInRange (v.Gr n) = n < 128
 IsInRange (v.Pr n) = n < 64
@@ -45,7 +45,7 @@ IsInRange (v.Signed z) = unsigned_abs z < 2 ^ 64
 IsInRange (v.Short z) = unsigned_abs z < 2 ^ 64
 IsInRange value = Unit {0}
 
--- a token whose register or number is in its range
+-- A token whose register or number is in its range.
 abbrev pub IsTokenInRange : Token → Type 0
 IsTokenInRange (t.Gr n) = n < 128
 IsTokenInRange (t.Pr n) = n < 64
@@ -53,7 +53,7 @@ IsTokenInRange (t.Br n) = n < 8
 IsTokenInRange (t.Number s m) = m < 2 ^ 64
 IsTokenInRange token = Unit {0}
 
--- what an operand takes is in its range
+-- What an operand takes is in its range.
 grown : (width most : ℕ) → width ≤ most → 2 ^ width ≤ 2 ^ most
 grown width most h = pow-le-pow_right (lit< tt) h
 

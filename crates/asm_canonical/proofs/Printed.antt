@@ -27,7 +27,7 @@ use Rattle.asm_canonical.specs.Canonical.{form_of}
 use Rattle.asm_canonical.proofs.InRange.{IsInRange, IsTokenInRange, listed_in_range, printed_in_range}
 use Rattle.asm_canonical.proofs.Written.{operands_of}
 
--- a long instruction, whose row has a part of its immediate
+-- A long instruction, whose row has a part of its immediate.
 whole_in_range : (qp : ℕ) (x : Op) → AllByRecursion IsInRange (values_under qp (slot_op x)) → IsWithin x → AllByRecursion IsInRange (values_under qp x)
 whole_in_range qp (op.Movl r1 imm) h within = (h.0, (h.1.0, (within, (tt, (tt, (tt, (tt, tt)))))))
 whole_in_range qp (op.Break u imm) h within = (h.0, (omega (arith, within), (tt, (tt, (tt, (tt, (tt, tt)))))))
@@ -42,7 +42,7 @@ values_in_range i (inr (inr (inr (inl l)))) = listed_in_range rows_b i table_b l
 values_in_range i (inr (inr (inr (inr (inl l))))) = listed_in_range rows_f i table_f l
 values_in_range i (inr (inr (inr (inr (inr l))))) = whole_in_range i.qp i.op (listed_in_range rows_x (slot_part i) table_x (l.0, l.1.code)) l.1.within
 
--- the predicate is the first value, and the others are without it the same
+-- The predicate is the first value, and the others are without it the same.
 pub values_first : (qp : ℕ) (x : Op) → values_under qp x ≡ v.Pr qp ∷ drop 1 (values_under 0 x)
 values_first qp op.Mf = refl
 values_first qp x = refl

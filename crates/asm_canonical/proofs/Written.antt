@@ -26,11 +26,11 @@ operands_of x = (syntax_of x).operands
 abbrev pub items_of : Op → List FormItem
 items_of x = (row_of (form_of x)).items
 
--- fixed tokens and operands
+-- fixed tokens and operands.
 abbrev pub tokens_of : Op → List Token
 tokens_of x = filled (items_of x) (operands_of x)
 
--- a token that can be printed: an operand whose registers and numbers are in their ranges, or a fixed one
+-- A token that can be printed: an operand whose registers and numbers are in their ranges, or a fixed one.
 abbrev pub IsPrinted : Token → Type 0
 IsPrinted (t.Gr n) = n < 128
 IsPrinted (t.Pr n) = n < 64
@@ -47,6 +47,6 @@ IsPrinted t.OpenBracket = Unit {0}
 IsPrinted t.CloseBracket = Unit {0}
 IsPrinted _ = ⊥
 
--- the syntax of an operation, step by step
+-- The syntax of an operation, step by step.
 pub syntax_is : (x : Op) (qp : ℕ) (f : Form) (o : Opcode) (vs ws : List Value) → o ≡ opcode_of x → qp ≡ 0 → vs ≡ values_under qp x → f ≡ form_by o (at vs) → ws ≡ written o vs → syntax_by f o ws ≡ syntax_of x
 syntax_is x qp f o vs ws e q v g w = rw (w, g, v, q, e) refl

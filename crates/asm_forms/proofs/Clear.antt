@@ -13,25 +13,25 @@ use Rattle.asm_forms.specs.Naming.{begins, completers_in}
 use Rattle.asm_forms.specs.Rows.{FormRow, rows, row_index}
 use Rattle.asm_forms.proofs.Fits.{are_told}
 
--- what is printed for the item is never read for the other one
+-- What is printed for the item is never read for the other one.
 abbrev pub tells : FormItem → FormItem → Bool
 tells (Is fixed) j = not (accepts j (fixed_token fixed))
 tells (Takes kind n) (Is fixed) = not (prints kind (fixed_token fixed))
 tells (Takes kind n) (Takes other m) = are_told kind other
 
--- the items of two rows tell them apart
+-- The items of two rows tell them apart.
 abbrev pub differ : List FormItem → List FormItem → Bool
 differ [] [] = false
 differ [] (j ∷ js) = true
 differ (i ∷ is) [] = true
 differ (i ∷ is) (j ∷ js) = tells i j || differ is js
 
--- each choice of completers
+-- Each choice of completers.
 abbrev pub products : List (CompleterSet × ℕ) → List (List Completer)
 products [] = [] ∷ []
 products (s ∷ ss) = flat_map (λ c. map (λ cs. c ∷ cs) (products ss)) (members s.0)
 
--- no completers of the first are completers of the second
+-- No completers of the first are completers of the second.
 abbrev pub never_named : List (CompleterSet × ℕ) → List (CompleterSet × ℕ) → Bool
 never_named sets others = list_all (λ cs. not (is_some (completers_in others (flat_map text_of cs)))) (products sets)
 

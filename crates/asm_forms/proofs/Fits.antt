@@ -22,7 +22,7 @@ takes_printed k.Label t.Name h = refl
 takes_printed k.Label x h = cc
 takes_printed kind x h = h
 
--- the tokens are those that the items want
+-- The tokens are those that the items want.
 pub spelled : (is : List FormItem) (xs : List Token) → fits is xs ≡ true → pointwise accepts is (filled is xs) ≡ true
 spelled [] [] h = refl
 spelled [] (x ∷ xs) h = cc
@@ -38,7 +38,7 @@ taken_back (Is fixed ∷ is) xs h = taken_back is xs h
 taken_back (Takes kind n ∷ is) [] h = cc
 taken_back (Takes kind n ∷ is) (x ∷ xs) h = ap (λ ys. x ∷ ys) (taken_back is xs (right _ _ h))
 
--- no operand of the first kind is printed as one that the second takes
+-- No operand of the first kind is printed as one that the second takes.
 abbrev pub are_told : Kind → Kind → Bool
 are_told (k.Number f) k.Label = true
 are_told kind k.Label = false

@@ -7,12 +7,12 @@ use Rattle.ia_program.proofs.Tests.{left, right}
 use Rattle.asm_forms.specs.Naming.{is_named, begins, named_forms}
 use Rattle.asm_forms.specs.Rows.{FormRow, rows_to_b, rows_c_to_i, rows_l_to_n, rows_o_to_r, rows_from_s, rows}
 
--- the first byte is one of these
+-- The first byte is one of these.
 abbrev pub leads : ℕ → ℕ → List ℕ → Bool
 leads low above [] = false
 leads low above (c ∷ cs) = leb low c && ltb c above
 
--- a name's first byte, if any, is none of these
+-- A name's first byte, if any, is none of these.
 abbrev pub IsElsewhere : ℕ → ℕ → List ℕ → Type 0
 IsElsewhere low above [] = Unit {0}
 IsElsewhere low above (c ∷ cs) = (c < low) ⊎ (above ≤ c)
@@ -38,7 +38,7 @@ none_named low above name [] e h = refl
 none_named low above name (r ∷ rs) e h =
     skipped (is_named name) r rs (not_named name r (unlike low above name r.stem e (left _ _ h))) (none_named low above name rs e (right _ _ h))
 
--- what is kept of joined lists
+-- What is kept of joined lists.
 kept_more : (p : FormRow → Bool) (x : FormRow) (xs ys us vs : List FormRow) → filter p (xs ++ ys) ≡ us ++ vs → filter p xs ≡ us → filter p ((x ∷ xs) ++ ys) ≡ filter p (x ∷ xs) ++ vs
 kept_more p x xs ys us vs h e = elim (p x) as (λ b. cond b (x ∷ filter p (xs ++ ys)) (filter p (xs ++ ys)) ≡ cond b (x ∷ filter p xs) (filter p xs) ++ vs) [ true ↦ rw (h, e) refl | false ↦ rw (h, e) refl ]
 

@@ -11,7 +11,7 @@ use Rattle.asm_forms.specs.Rows.{rows, first_row, row_of, row_index}
 use Rattle.asm_forms.proofs.Clear.{products}
 use Rattle.asm_forms.proofs.RowFacts.{in_table}
 
--- an element of a list, step by step
+-- An element of a list, step by step.
 abbrev pub IsOneOf : {A : Type 0} → A → List A → Type 0
 IsOneOf x [] = ⊥
 IsOneOf x (y ∷ ys) = (x ≡ y) ⊎ IsOneOf x ys
@@ -43,14 +43,14 @@ one_flat f x y [] h k = absurd h
 one_flat f x y (z ∷ zs) (inl e) k = one_front y (f z) _ (rw (sym e) k)
 one_flat f x y (z ∷ zs) (inr h) k = one_back y (f z) _ (one_flat f x y zs h k)
 
--- one completer of each set is one of the choices
+-- One completer of each set is one of the choices.
 chosen : (ss : List (CompleterSet × ℕ)) (cs : List Completer) → AreChosen ss cs → IsOneOf cs (products ss)
 chosen [] [] h = inl refl
 chosen (s ∷ ss) (x ∷ xs) h = one_flat (λ c. map (λ cs. c ∷ cs) (products ss)) x (x ∷ xs) (members s.0) (one_of (members s.0) x h.0) (one_mapped (λ cs. x ∷ cs) xs (products ss) (chosen ss xs h.1))
 chosen [] (x ∷ xs) h = absurd h
 chosen (s ∷ ss) [] h = absurd h
 
--- where two functions are the same on a list, they are so of each element
+-- Where two functions are the same on a list, they are so of each element.
 pub same_of : {A B : Type 0} (g h : A → B) (xs : List A) (x : A) → map g xs ≡ map h xs → IsOneOf x xs → g x ≡ h x
 same_of g h [] x e o = absurd o
 same_of g h (y ∷ ys) x e (inl s) = rw s (cc)
@@ -61,7 +61,7 @@ same_at g h [] i d e l = absurd (omega (arith, l))
 same_at g h (x ∷ xs) zero d e l = cc
 same_at g h (x ∷ xs) (suc i) d e l = same_at g h xs i d (cc) (omega (arith, l))
 
--- each choice of completers of each row is read back: a computation over all rows
+-- Each choice of completers of each row is read back: a computation over all rows.
 all_read : map (λ r. map (λ cs. completers_in r.sets (flat_map text_of cs)) (products r.sets)) rows ≡ map (λ r. map (λ cs. Some cs) (products r.sets)) rows
 all_read = refl
 

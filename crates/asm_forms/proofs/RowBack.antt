@@ -31,11 +31,11 @@ use Rattle.asm_forms.proofs.Clear.{tells, differ, products, never_named, is_clea
 use Rattle.asm_forms.proofs.Fits.{spelled, told}
 use Rattle.asm_forms.proofs.RowFacts.{form_back, in_table, of_row}
 
--- the row's items are the operands'
+-- The row's items are the operands'.
 abbrev is_read : List Token → FormRow → Bool
 is_read operands r = pointwise accepts r.items operands
 
--- a token that is a fixed one is that one's
+-- A token that is a fixed one is that one's.
 marked : (n : Fixed) (x : Token) → is_fixed n x ≡ true → x ≡ fixed_token n
 marked m.Equals t.Equals h = refl
 marked m.Comma t.Comma h = refl
@@ -50,7 +50,7 @@ marked m.Ip t.Ip h = refl
 marked m.One (t.Number false n) h = ap (t.Number false) (eqb-true n 1 h)
 marked n x h = cc
 
--- what is printed for an item that tells another one is not read for it
+-- What is printed for an item that tells another one is not read for it.
 not_the_fixed : (k : Kind) (n : Fixed) (x : Token) (b : Bool) → b ≡ is_fixed n x → prints k x ≡ true → not (prints k (fixed_token n)) ≡ true → b ≡ false
 not_the_fixed k n x true e p h =
     let s : prints k (fixed_token n) ≡ true = subst (λ y. prints k y ≡ true) (marked n x (sym e)) p in
@@ -66,7 +66,7 @@ either true a b c f g h = rw (f refl) refl
 either false true b c f g h = g h
 either false false b c f g h = refl
 
--- what is printed for items that differ from others is not theirs
+-- What is printed for items that differ from others is not theirs.
 pub not_spelled : (is js : List FormItem) (xs : List Token) → fits is xs ≡ true → differ is js ≡ true → pointwise accepts js (filled is xs) ≡ false
 not_spelled [] [] xs h e = cc
 not_spelled [] (j ∷ js) xs h e = refl
@@ -89,7 +89,7 @@ of_first : (p : List Completer → Bool) (ss : List (CompleterSet × ℕ)) (cs :
 of_first p ss cs None name f e = cc
 of_first p ss cs (Some c) name f e = of_rest p ss cs c (completers_in ss (drop (length (text_of c)) name)) (λ ds k. f c ds refl k) e
 
--- what holds of each choice of completers holds of those that are read from a name
+-- What holds of each choice of completers holds of those that are read from a name.
 pub of_products : (p : List Completer → Bool) (ss : List (CompleterSet × ℕ)) (name : List ℕ) (cs : List Completer) → list_all p (products ss) ≡ true → completers_in ss name ≡ Some cs → p cs ≡ true
 of_products p [] [] [] h e = left _ _ h
 of_products p [] [] (c ∷ cs) h e = cc
@@ -100,12 +100,12 @@ of_products p (s ∷ ss) name cs h e =
     (λ c ds f k. of_products (λ ds. p (c ∷ ds)) ss (drop (length (text_of c)) name) ds
     (all_map p (λ ds. c ∷ ds) (products ss) (all_found (λ c. list_all p (map (λ ds. c ∷ ds) (products ss))) (λ c. begins name (text_of c)) (members s.0) c each f)) k) e
 
--- a name's own front
+-- A name's own front.
 own_front : (w rest : List ℕ) → pointwise nat_eq w (take (length w) (w ++ rest)) ≡ true
 own_front [] rest = refl
 own_front (x ∷ w) rest = and_from _ _ (eq-eqb x x refl) (own_front w rest)
 
--- a completer begins with a dot, or is nothing
+-- A completer begins with a dot, or is nothing.
 first_dot : (x : Suffix) (rest : List ℕ) → ends_part rest ≡ true → ends_part (suffix_text x ++ rest) ≡ true
 first_dot suffix.Absent rest h = h
 first_dot x rest h = refl
@@ -114,7 +114,7 @@ dots : (cs : List Completer) → ends_part (flat_map text_of cs) ≡ true
 dots [] = refl
 dots (x ∷ cs) = first_dot x.suffix (flat_map text_of cs) (dots cs)
 
--- a row's own stem and completers name it
+-- A row's own stem and completers name it.
 pub named_own : (r : FormRow) (cs : List Completer) → completers_in r.sets (flat_map text_of cs) ≡ Some cs → is_named (r.stem ++ flat_map text_of cs) r ≡ true
 named_own r cs e =
     let d : drop (length r.stem) (r.stem ++ flat_map text_of cs) ≡ flat_map text_of cs = drop-append_seam r.stem (flat_map text_of cs) in
@@ -125,7 +125,7 @@ passed p x ys o true true e n m = cc
 passed p x ys o true false e n m = rw e m
 passed p x ys o false a e n m = m
 
--- the first row that is named and spelled is found
+-- The first row that is named and spelled is found.
 found_at : (p q : FormRow → Bool) (xs : List FormRow) (i : ℕ) (d : FormRow) → i < length xs → p (get_or xs i d) ≡ true → q (get_or xs i d) ≡ true → list_all (λ r. not (q r && p r)) (take i xs) ≡ true
     → find p (filter q xs) ≡ Some (get_or xs i d)
 found_at p q [] i d l a b n = absurd (omega (arith, l))
@@ -142,7 +142,7 @@ not_first : (a : Bool) (sets : List (CompleterSet × ℕ)) (name : List ℕ) (d 
 not_first true sets name d h = rw h refl
 not_first false sets name d h = refl
 
--- a row that stands before another is not read from what the other prints
+-- A row that stands before another is not read from what the other prints.
 unread : (r q : FormRow) (cs : List Completer) (xs : List Token) → fits r.items xs ≡ true → completers_in r.sets (flat_map text_of cs) ≡ Some cs → is_clear r q ≡ true → is_other (flat_map text_of cs) r q ≡ true
     → not (is_named (r.stem ++ flat_map text_of cs) q && is_read (filled r.items xs) q) ≡ true
 unread r q cs xs h e clear other = by_stem (bytes_eq r.stem q.stem) refl clear other
@@ -159,7 +159,7 @@ unread r q cs xs h e clear other = by_stem (bytes_eq r.stem q.stem) refl clear o
             let u : is_some (completers_in q.sets (flat_map text_of cs)) ≡ false = not-true _ (of_products (λ ds. not (is_some (completers_in q.sets (flat_map text_of ds)))) r.sets (flat_map text_of cs) cs n e) in
             not_first (begins (r.stem ++ flat_map text_of cs) q.stem) q.sets (drop (length q.stem) (r.stem ++ flat_map text_of cs)) _ (rw (w) u)
 
--- the completers' text is nothing, or begins with a dot
+-- The completers' text is nothing, or begins with a dot.
 ends : (rest : List ℕ) → ends_part rest ≡ true → (rest ≡ []) ⊎ ((cs : List ℕ) × (rest ≡ 46 ∷ cs))
 ends [] h = inl refl
 ends (x ∷ cs) h = inr (cs, ap (λ y. y ∷ cs) (eqb-true x 46 h))
@@ -168,7 +168,7 @@ others : (rest : List ℕ) → (rest ≡ []) ⊎ ((cs : List ℕ) × (rest ≡ 4
 others rest (inl e) = subst (λ z. list_all (λ r. list_all (is_other z r) rows) rows ≡ true) (sym e) stems_alone
 others rest (inr (cs, e)) = subst (λ z. list_all (λ r. list_all (is_other z r) rows) rows ≡ true) (sym e) (stems_dotted cs)
 
--- what is found among rows is found among their forms, where a row is found by its form
+-- What is found among rows is found among their forms, where a row is found by its form.
 found_first : (p : FormRow → Bool) (row : Form → FormRow) (x r : FormRow) (us : List FormRow) (b a : Bool) → p x ≡ a → row x.form ≡ x → (find p us ≡ Some r → find (λ f. p (row f)) (map (λ y. y.form) us) ≡ Some r.form)
     → find p (cond b (x ∷ us) us) ≡ Some r → find (λ f. p (row f)) (map (λ y. y.form) (cond b (x ∷ us) us)) ≡ Some r.form
 found_first p row x r us true true e i k h = let s : x ≡ r = same_Some x r (rw e at h) in rw (i, e) (ap (λ y. Some y.form) s)

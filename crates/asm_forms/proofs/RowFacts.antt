@@ -6,7 +6,7 @@ use Rattle.asm_forms.specs.declared.form.Form.{Form}
 use Rattle.asm_forms.specs.declared.form.Form.TheVariants as form
 use Rattle.asm_forms.specs.Rows.{FormRow, rows, first_row, row_of, row_index}
 
--- the forms stand in the order of their rows
+-- The forms stand in the order of their rows.
 pub form_back : (f : Form) → (row_of f).form ≡ f
 form_back form.Data = refl
 form_back f = refl
@@ -15,6 +15,6 @@ pub in_table : (f : Form) → row_index f < length rows
 in_table form.Data = lit< tt
 in_table f = lit< tt
 
--- what holds of each row holds of that of a form
+-- What holds of each row holds of that of a form.
 pub of_row : (p : FormRow → Bool) (f : Form) → list_all p rows ≡ true → p (row_of f) ≡ true
 of_row p f h = all_get p rows (row_index f) first_row (in_table f) h

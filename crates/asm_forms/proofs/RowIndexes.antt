@@ -3,7 +3,7 @@ use Rattle.std.proofs.Common.{◌≡◌, refl, sym, ◌∙◌, ap, ℕ, zero, su
 use Rattle.std.proofs.lemmas.List.{get_or-append-add}
 use Rattle.asm_forms.specs.Rows.{FormRow, Seen, seen}
 
--- as many rows as a function has of them
+-- As many rows as a function has of them.
 pub as_many : (xs : List Seen) (rs : List FormRow) → map seen xs ≡ rs → length xs ≡ length rs
 as_many xs rs e = count xs ∙ ap length e
   where

@@ -13,18 +13,18 @@ use Rattle.asm_forms.specs.Spelled.{is_spelled}
 use Rattle.asm_forms.specs.Naming.{is_named}
 use Rattle.asm_forms.specs.Rows.{FormRow, Seen, seen, row_of}
 
--- the first form of these rows that the name and the operands spell
+-- The first form of these rows that the name and the operands spell.
 abbrev pub spelled : List ℕ → List Token → List FormRow → Option Form
 spelled name operands rs = find (is_spelled operands) (map (λ r. r.form) (filter (is_named name) rs))
 
--- the first row of a table whose rows are those of their forms
+-- The first row of a table whose rows are those of their forms.
 first_own : (r : FormRow) (rs : List FormRow) → map (λ q. row_of q.form) (r ∷ rs) ≡ r ∷ rs → row_of r.form ≡ r
 first_own r rs h = cc
 
 others_own : (r : FormRow) (rs : List FormRow) → map (λ q. row_of q.form) (r ∷ rs) ≡ r ∷ rs → map (λ q. row_of q.form) rs ≡ rs
 others_own r rs h = cc
 
--- the row's own form is found
+-- The row's own form is found.
 here : (name : List ℕ) (operands : List Token) (r : FormRow) (rs : List FormRow) → row_of r.form ≡ r → (is_named name r && pointwise accepts r.items operands) ≡ true → spelled name operands (r ∷ rs) ≡ Some r.form
 here name operands r rs own h = here_by (is_named name r) own h
   where
@@ -32,7 +32,7 @@ here name operands r rs own h = here_by (is_named name r) own h
     here_by true own h = rw (own, h) refl
     here_by false own h = cc
 
--- where it isn't, the others are looked through
+-- Where it isn't, the others are looked through.
 past : (name : List ℕ) (operands : List Token) (r : FormRow) (rs : List FormRow) → row_of r.form ≡ r → (is_named name r && pointwise accepts r.items operands) ≡ false → spelled name operands (r ∷ rs) ≡ spelled name operands rs
 past name operands r rs own h = past_by (is_named name r) own h
   where
@@ -40,14 +40,14 @@ past name operands r rs own h = past_by (is_named name r) own h
     past_by true own h = rw (own, h) refl
     past_by false own h = refl
 
--- what stands past the end of a table
+-- What stands past the end of a table.
 abbrev nothing : {A : Type 0} → Bor (List A)
 nothing = record { ref_ptr = (0, 0); now = [] }
 
 abbrev pub no_row : Seen
 no_row = record { form = form.Data; stem = nothing; sets = nothing; items = nothing; opcode = None; fixed = nothing }
 
--- the row at an index of a table, and those that follow it
+-- The row at an index of a table, and those that follow it.
 at_row_index : (rs : List Seen) (i : ℕ) (d : Seen) → i < length rs → map seen (drop i rs) ≡ seen (get_or rs i d) ∷ map seen (drop (i + 1) rs)
 at_row_index rs i d h = ap (map seen) (drop_more rs i d h)
 

@@ -10,7 +10,7 @@ still_some : (c : Completer) (o : Option (List Completer)) → is_some o ≡ is_
 still_some c None = refl
 still_some c (Some cs) = refl
 
--- the name has a completer of each set where one of the first is found and the rest has those of the others
+-- The name has a completer of each set where one of the first is found and the rest has those of the others.
 pub one_more : (sets : List (CompleterSet × ℕ)) (d : CompleterSet × ℕ) (name : List ℕ) (ms : List Completer) (c : Completer) (w : List ℕ) (r : Bool) (others : List (CompleterSet × ℕ)) (rest : List ℕ) → 1 ≤ length sets → ms ≡ members (get_or sets 0 d).0
     → Some c ≡ find (λ y. begins name (text_of y)) ms → w ≡ text_of c → others ≡ drop 1 sets → rest ≡ drop (length w) name → r ≡ is_some (completers_in others rest) → r ≡ is_some (completers_in sets name)
 one_more [] d name ms c w r others rest l e f t o n h = absurd (omega (arith, l))

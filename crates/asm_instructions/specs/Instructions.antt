@@ -51,7 +51,7 @@ abbrev pub completed_by : List Completer → Opcode → Option Opcode
 completed_by [] x = Some x
 completed_by (completer ∷ cs) x = option_and_then (completed_by cs) (completed completer.says x)
 
--- an opcode with the application register that an operand is
+-- An opcode with the application register that an operand is.
 abbrev pub moving : Token → Opcode → Opcode
 moving (t.Ar b) (o.MovToAr a) = o.MovToAr b
 moving (t.Ar b) (o.MovToArImm a) = o.MovToArImm b
@@ -62,7 +62,7 @@ abbrev pub moving_by : List Token → Opcode → Opcode
 moving_by [] x = x
 moving_by (token ∷ ts) x = moving_by ts (moving token x)
 
--- values with those of a form's own, of the operands and of the completers, each put at its number
+-- Values with those of a form's own, of the operands and of the completers, each put at its number.
 abbrev pub with_fixed : List (Said × ℕ) → List Value → List Value
 with_fixed [] vs = vs
 with_fixed (x ∷ xs) vs = with_fixed xs (slice_set vs x.1 (said_value x.0))
@@ -83,7 +83,7 @@ no_values = v.Absent ∷ v.Absent ∷ v.Absent ∷ v.Absent ∷ v.Absent ∷ v.A
 abbrev pub values_by : FormRow → List Completer → List Token → List Value
 values_by r cs xs = with_completers r.sets cs (with_operands (operands r.items) xs (with_fixed r.fixed no_values))
 
--- the instruction of a row
+-- The instruction of a row.
 abbrev pub op_by : FormRow → List Completer → List Token → Option Op
 op_by r cs xs = option_and_then (λ x. option_map (λ y. op_with y (at (values_by r cs xs))) (completed_by cs (moving_by xs x))) r.opcode
 
@@ -91,7 +91,7 @@ op_by r cs xs = option_and_then (λ x. option_map (λ y. op_with y (at (values_b
 abbrev pub sum : List Token → ℕ → ℤ → ℕ → Op
 sum xs r1 imm r3 = if has_room Imm14 (is_negative_at xs 1) (magnitude_at xs 1) then op.AddImm14 false r1 imm r3 else op.AddImm22 r1 imm r3
 
--- a frame of inputs, locals, outputs and rotating registers
+-- A frame of inputs, locals, outputs and rotating registers.
 abbrev pub allocation : ℕ → ℕ → ℕ → ℕ → ℕ → Option Op
 allocation r1 i l o r = if nat_lt 96 (i + l + o) then None else Some (op.Alloc r1 (i + l + o) (i + l) (r / 8))
 
@@ -104,6 +104,6 @@ settled form.ShrNumber xs (op.Extr signed r1 r3 lowest len) = Some (op.Extr sign
 settled form.Alloc xs (op.Alloc r1 sof sol sor) = allocation r1 (small_at xs 1) (small_at xs 2) (small_at xs 3) (small_at xs 4)
 settled f xs x = Some x
 
--- the instruction of a form with these completers and operands
+-- The instruction of a form with these completers and operands.
 abbrev pub op_of : Form → List Completer → List Token → Option Op
 op_of f cs xs = option_and_then (settled f xs) (op_by (row_of f) cs xs)

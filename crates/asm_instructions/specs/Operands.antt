@@ -17,7 +17,7 @@ use Rattle.insn_rows.specs.declared.value.Value.TheVariants as v
 abbrev pub token_at : List Token → ℕ → Token
 token_at ts k = slice_index_or ts k t.OtherMark
 
--- a number without its sign
+-- A number without its sign.
 abbrev pub magnitude : Token → ℕ
 magnitude (t.Number s m) = m
 magnitude _ = 0
@@ -32,14 +32,14 @@ is_negative _ = false
 abbrev pub is_negative_at : List Token → ℕ → Bool
 is_negative_at ts k = is_negative (token_at ts k)
 
--- a number below 256
+-- A number below 256.
 abbrev pub small : ℕ → ℕ
 small m = if nat_lt m 256 then m else 0
 
 abbrev pub small_at : List Token → ℕ → ℕ
 small_at ts k = small (magnitude_at ts k)
 
--- a number below 2^32
+-- A number below 2^32.
 abbrev pub u32_at : List Token → ℕ → ℕ
 u32_at ts k = if nat_lt (magnitude_at ts k) (2 ^ 32) then magnitude_at ts k else 0
 
@@ -47,23 +47,23 @@ abbrev pub signed : Bool → ℕ → ℤ
 signed true m = neg_ℤ (pos m)
 signed false m = pos m
 
--- a number with its sign, of 64 and of 16 bits
+-- A number with its sign, of 64 and of 16 bits.
 abbrev pub long : Bool → ℕ → ℤ
 long negative m = if nat_lt m (2 ^ 63) then signed negative m else pos 0
 
 abbrev pub short : Bool → ℕ → ℤ
 short negative m = if nat_lt m (2 ^ 15) then signed negative m else pos 0
 
--- a number modulo a power of two
+-- A number modulo a power of two.
 abbrev pub wrapped : ℕ → Bool → ℕ → ℕ
 wrapped modulus true m = (modulus - m % modulus) % modulus
 wrapped modulus false m = m % modulus
 
--- a number with its lowest bit cleared
+-- A number with its lowest bit cleared.
 abbrev pub even : ℕ → ℕ
 even n = n - n % 2
 
--- the value that a number is by its field
+-- The value that a number is by its field.
 abbrev pub number_value : NumberField → Bool → ℕ → Value
 number_value f.Imm8 s m = v.Signed (long s m)
 number_value f.Less8 s m = v.Signed (long s m -ℤ pos 1)
@@ -89,14 +89,14 @@ operand_value (k.Number field) (t.Number s m) = number_value field s m
 operand_value k.Label x = v.Displacement (pos 0)
 operand_value _ _ = v.Absent
 
--- the value that is said, by a completer or by a form
+-- The value that is said, by a completer or by a form.
 abbrev pub said_value : Said → Value
 said_value (said.Flag b) = v.Flag b
 said_value (said.Small n) = v.Small n
 said_value (said.Mask n) = v.Mask n
 said_value _ = v.Absent
 
--- how many bytes
+-- How many bytes.
 abbrev pub bytes : AccessSize → ℕ
 bytes size.One = 1
 bytes size.Two = 2

@@ -32,6 +32,6 @@ cut_same line front zero at (c ∷ cs) e a =
           ]
     ]
 
--- the lexemes of a line by position have these kinds and texts
+-- The lexemes of a line by position have these kinds and texts.
 pub lexemes_lexed : (line : List ℕ) → map (λ w. (w.kind, slice_range line w.start w.end)) (lexemes_from 0 0 line) ≡ lexed 0 line
 lexemes_lexed line = cut_same line [] 0 0 line refl refl

@@ -28,7 +28,7 @@ all_snoc [] c h b = rw b refl
 all_snoc (x ∷ xs) c h b =
     elim (is_blank x) as (λ t. (t && list_all is_blank xs) ≡ true → (t && list_all is_blank (xs ++ c ∷ [])) ≡ true) [ true ↦ λ k. all_snoc xs c k b | false ↦ λ k. k ] h
 
--- a gap with one more blank
+-- A gap with one more blank.
 gap_more : (after : Bool) (gap : List ℕ) (c : ℕ) → is_gap after gap ≡ true → is_blank c ≡ true → is_gap after (gap ++ c ∷ []) ≡ true
 gap_more false gap c h b = all_snoc gap c h b
 gap_more true [] c h b = rw (not_sharp c b, b) refl
@@ -43,7 +43,7 @@ rest_after [] cs h r = r
 rest_after (x ∷ xs) cs h r =
     elim (is_blank x) as (λ t. (t && list_all is_blank xs) ≡ true → cond t (is_rest (xs ++ cs)) (begins_comment x (xs ++ cs)) ≡ true) [ true ↦ λ k. rest_after xs cs k r | false ↦ λ k. cc ] h
 
--- what may stand at the end: nothing, or a comment
+-- What may stand at the end: nothing, or a comment.
 abbrev is_last : List ℕ → Bool
 is_last [] = true
 is_last (c ∷ cs) = begins_comment c cs
@@ -59,7 +59,7 @@ last_sharp : (cs : List ℕ) → is_last cs ≡ true → without_sharp true cs �
 last_sharp [] h = refl
 last_sharp (c ∷ cs) h = rw (slash_is_no_sharp c cs h) refl
 
--- a gap and then nothing or a comment
+-- A gap and then nothing or a comment.
 gap_last : (after : Bool) (gap cs : List ℕ) → is_gap after gap ≡ true → is_last cs ≡ true → is_rest (without_sharp after (gap ++ cs)) ≡ true
 gap_last false gap cs h l = rest_after gap cs h (last_rest cs l)
 gap_last true [] cs h l = ap is_rest (last_sharp cs l) ∙ last_rest cs l
@@ -69,7 +69,7 @@ gap_last true (x ∷ xs) cs h l =
       | false ↦ λ k. rest_after (x ∷ xs) cs k (last_rest cs l)
     ] h
 
--- the sharp after a lexeme is a gap of its own
+-- The sharp after a lexeme is a gap of its own.
 sharp_gap : (k : LexemeKind) (rest : List ℕ) → (is_gap (is_name k) (take (cond (has_sharp k rest) 1 0) rest) ≡ true) × (length (take (cond (has_sharp k rest) 1 0) rest) ≡ cond (has_sharp k rest) 1 0)
 sharp_gap lexeme.Name [] = (refl, refl)
 sharp_gap lexeme.Name (c ∷ cs) = elim (eqb c 35) as (λ t. eqb c 35 ≡ t → (is_gap true (take (cond (eqb c 35) 1 0) (c ∷ cs)) ≡ true) × (length (take (cond (eqb c 35) 1 0) (c ∷ cs)) ≡ cond (eqb c 35) 1 0)) [
@@ -85,7 +85,7 @@ middle done gap cs at e =
     let n : at - length done ≡ length gap = omega arith in
     rw (n, drop-append_seam done (gap ++ cs)) (take-append_seam gap cs)
 
--- a lexeme cut from the line, and the sharp after it
+-- A lexeme cut from the line, and the sharp after it.
 cut_lexeme : (done gap cs : List ℕ) (c m s : ℕ) → done ++ (gap ++ c ∷ cs) ≡ (done ++ (gap ++ c ∷ take m cs)) ++ (take s (drop m cs) ++ drop (m + s) cs)
 cut_lexeme done gap cs c m s =
     let two : take s (drop m cs) ++ drop (m + s) cs ≡ drop m cs = ap (λ x. take s (drop m cs) ++ x) (sym (drop-drop s m cs)) ∙ take-append-drop s (drop m cs) in
@@ -128,6 +128,6 @@ gaps (suc n) at line done gap (c ∷ cs) after h e a g =
       ] refl
     ] refl
 
--- the lexemes of a line leave out only gaps
+-- The lexemes of a line leave out only gaps.
 pub lexemes_leave_out_gaps : (line : List ℕ) → LeavesOutGaps line false 0 (lexemes_from 0 0 line)
 lexemes_leave_out_gaps line = gaps (length line) 0 line [] [] line false (omega arith) refl refl refl

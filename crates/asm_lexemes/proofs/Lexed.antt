@@ -13,7 +13,7 @@ lexed zero (c ∷ cs) =
     else (if begins_comment c cs then []
     else (kind_at c cs, c ∷ take (more_at c cs) cs) ∷ lexed (more_at c cs + sharp_at c cs) cs)
 
--- what may follow a name or a number
+-- What may follow a name or a number.
 abbrev pub is_end : List ℕ → Bool
 is_end [] = true
 is_end (c ∷ cs) = if is_name_byte c then false else (if c == 35 then false else true)

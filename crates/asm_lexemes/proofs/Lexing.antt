@@ -10,7 +10,7 @@ use Rattle.asm_lexemes.specs.Bytes.{is_blank, begins_with, is_name_byte, is_digi
 use Rattle.asm_lexemes.specs.Lexemes.{begins_comment, name_run, kind_at, more_at, sharp_at}
 use Rattle.asm_lexemes.proofs.Lexed.{lexed, is_end}
 
--- a run of name bytes before such an end
+-- A run of name bytes before such an end.
 run_is : (n cs : List ℕ) → list_all is_name_byte n ≡ true → is_end cs ≡ true → name_run (n ++ cs) ≡ length n
 run_is [] [] h e = refl
 run_is [] (c ∷ cs) h e = elim (is_name_byte c) as (λ b. cond b false (cond (eqb c 35) false true) ≡ true → cond b (name_run cs + 1) 0 ≡ 0) [ true ↦ λ f. cc | false ↦ λ f. refl ] e
@@ -55,7 +55,7 @@ digit_is_name c h = rw h refl
 swap : (c : ℕ) (rest : List ℕ) (k : LexemeKind) (m s : ℕ) → k ≡ lexeme.Number → m ≡ name_run rest → s ≡ 0 → (k, c ∷ take m rest) ∷ lexed (m + s) rest ≡ (lexeme.Number, c ∷ take (name_run rest) rest) ∷ lexed (name_run rest + 0) rest
 swap c rest k m s ek em es = rw (ek, em, es) refl
 
--- the step of a number
+-- The step of a number.
 number_step : (c : ℕ) (rest : List ℕ) → is_blank c ≡ false → begins_comment c rest ≡ false → kind_at c rest ≡ lexeme.Number → lexed 0 (c ∷ rest) ≡ (lexeme.Number, c ∷ take (name_run rest) rest) ∷ lexed (name_run rest + 0) rest
 number_step c rest b m k =
     let s : sharp_at c rest ≡ 0 = rw k refl in

@@ -10,7 +10,7 @@ use Rattle.asm_lexemes.specs.Numbers.{are_digits}
 use Rattle.asm_lexemes.specs.Registers.{numbered, has_needless_zero}
 use Rattle.asm_lexemes.proofs.Numerals.{one_more}
 
--- the value of a digit
+-- The value of a digit.
 digit_of : (c : ℕ) → is_digit_byte c ≡ true → c - 48 ≡ digit_value c
 digit_of c h = grind (arith, nat_tests)
 

@@ -7,7 +7,7 @@ use Rattle.ia_program.proofs.Tests.{left, right}
 use Rattle.asm_lexemes.specs.declared.tokens.Token.{Token}
 use Rattle.asm_lexemes.specs.Registers.{look_up, aliases, alias_of, numbered_register, register_of}
 
--- the entries' names spell none by a number
+-- The entries' names spell none by a number.
 abbrev spell_none : List (List ℕ × Token) → Bool
 spell_none [] = true
 spell_none (e ∷ es) = is_none (numbered_register e.0) && spell_none es

@@ -18,7 +18,7 @@ run_plain (c ∷ cs) =
       | false ↦ λ e. refl
     ] refl
 
--- the sharp after a name is plain
+-- The sharp after a name is plain.
 sharp_plain : (cs : List ℕ) → has_only_plain (drop (cond (begins_with 35 cs) 1 0) cs) ≡ has_only_plain cs
 sharp_plain [] = refl
 sharp_plain (c ∷ cs) =
@@ -31,7 +31,7 @@ no_run : (b : Bool) (c : ℕ) → pick (cond b lexeme.Quoted lexeme.Mark) true t
 no_run true c h = cc
 no_run false c h = cc
 
--- a name or a number begins with a plain byte
+-- A name or a number begins with a plain byte.
 plain_first : (c : ℕ) (cs : List ℕ) → pick (kind_at c cs) true true false false ≡ true → is_plain_byte c ≡ true
 plain_first c cs =
     elim (is_digit_byte c) as (λ b. is_digit_byte c ≡ b → pick (cond b lexeme.Number (cond (is_name_byte c) lexeme.Name (cond (eqb c 45 && begins_digit cs) lexeme.Number (cond (eqb c 34 && has_quote cs) lexeme.Quoted lexeme.Mark)))) true true false false ≡ true → is_plain_byte c ≡ true) [
@@ -51,7 +51,7 @@ split true m cs =
     let z : m + 0 ≡ m = omega arith in
     rw z (ap has_only_plain (sym (take-append-drop m cs)) ∙ list_all-append is_plain_byte (take m cs) (drop m cs))
 
--- of a lexeme, what follows it and its own bytes
+-- Of a lexeme, what follows it and its own bytes.
 by_kind : (k : LexemeKind) (c m : ℕ) (cs : List ℕ) → k ≡ kind_at c cs → m ≡ more_at c cs
     → has_only_plain (c ∷ cs) ≡ (is_plain_lexeme k c (take m cs) && has_only_plain (drop (m + cond (has_sharp k (drop m cs)) 1 0) cs))
 by_kind lexeme.Name c m cs e f =

@@ -108,7 +108,7 @@ number_decimal (c ∷ cs) h =
     let n : eqb c 45 ≡ false = grind (arith, nat_tests, r) in
     rw n refl
 
--- decimal digits
+-- decimal digits.
 pub decimal_reads : (n : ℕ) → n < 2 ^ 64 → token_of lexeme.Number (decimal n) ≡ t.Number false n
 decimal_reads n l =
     let d = decimal_is_IsNumeral n l in
@@ -134,7 +134,7 @@ hex_reads n l = let d = hex_is_numeral n l in based_reads false 16 (digits 16 fa
 pub minus_hex_reads : (n : ℕ) → n < 2 ^ 64 → token_of lexeme.Number (45 ∷ 48 ∷ 120 ∷ digits 16 false n) ≡ t.Number true n
 minus_hex_reads n l = let d = hex_is_numeral n l in based_reads true 16 (digits 16 false n) n l d.0 d.1
 
--- digits are bytes of names
+-- digits are bytes of names.
 pub decimal_digits_are_name_bytes : (ds : List ℕ) → AllDigits 10 ds → list_all is_name_byte ds ≡ true
 decimal_digits_are_name_bytes [] h = refl
 decimal_digits_are_name_bytes (c ∷ cs) h = rw (digit_is_name c (is_decimal_byte c h.0), decimal_digits_are_name_bytes cs h.1) refl
@@ -156,7 +156,7 @@ label_is_short n l = let s = length-decimal-le 10 n (lit< tt) (omega arith) (ome
 pub label_reads : (n : ℕ) → n < 2 ^ 32 → token_of lexeme.Name (76 ∷ decimal n) ≡ t.Name
 label_reads n l = let e : leb (length (76 ∷ decimal n)) NAME_LIMIT ≡ true = le-leb _ _ (label_is_short n l) in rw e refl
 
--- bytes of names are plain, and so are digits
+-- Bytes of names are plain, and so are digits.
 pub name_byte_is_plain : (c : ℕ) → is_name_byte c ≡ true → is_plain_byte c ≡ true
 name_byte_is_plain c h = grind (arith, nat_tests)
 

@@ -56,7 +56,7 @@ order zero at from (c ∷ cs) h =
       ]
     ]
 
--- the lexemes of a line are nonempty parts of it, in order
+-- The lexemes of a line are nonempty parts of it, in order.
 pub lexemes_are_slices : (line : List ℕ) → AreSlices line (lexemes_from 0 0 line)
 lexemes_are_slices line = record {
   parts = All-from_recursion _ _ (parts 0 0 (length line) line (omega arith));

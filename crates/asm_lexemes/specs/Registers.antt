@@ -8,12 +8,12 @@ use Rattle.asm_lexemes.specs.declared.tokens.Token.{Token}
 use Rattle.asm_lexemes.specs.declared.tokens.Token.TheVariants as t
 use Rattle.asm_lexemes.specs.Numbers.{are_digits}
 
--- the first entry's value under the name
+-- The first entry's value under the name.
 abbrev pub look_up : List (List ℕ × Token) → List ℕ → Option Token
 look_up [] name = None
 look_up (e ∷ es) name = if bytes_eq name e.0 then Some e.1 else look_up es name
 
--- the registers with names of their own
+-- The registers with names of their own.
 abbrev pub aliases : List (List ℕ × Token)
 aliases =
     (codes "gp", t.Gr 1) ∷ (codes "sp", t.Gr 12) ∷ (codes "tp", t.Gr 13)
@@ -25,13 +25,13 @@ aliases =
 abbrev pub alias_of : List ℕ → Option Token
 alias_of name = look_up aliases name
 
--- no digit, or a zero before others
+-- No digit, or a zero before others.
 abbrev pub has_needless_zero : List ℕ → Bool
 has_needless_zero [] = true
 has_needless_zero (c ∷ []) = false
 has_needless_zero (c ∷ d ∷ ds) = c == 48
 
--- a number below the limit, spelled with no needless zero
+-- A number below the limit, spelled with no needless zero.
 abbrev pub numbered : ℕ → List ℕ → Option ℕ
 numbered limit ds =
     if not (are_digits 10 ds) || has_needless_zero ds then None
@@ -50,6 +50,6 @@ abbrev or_numbered : Option Token → List ℕ → Option Token
 or_numbered (Some register) name = Some register
 or_numbered None name = numbered_register name
 
--- the register that a name spells, by a name of its own or by its number
+-- The register that a name spells, by a name of its own or by its number.
 abbrev pub register_of : List ℕ → Option Token
 register_of name = or_numbered (alias_of name) name

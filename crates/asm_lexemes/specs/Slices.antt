@@ -6,11 +6,11 @@ use Rattle.asm_lexemes.specs.declared.lexeme.Lexeme.{Lexeme}
 use Rattle.asm_lexemes.specs.Bytes.{is_blank}
 use Rattle.asm_lexemes.specs.Lexemes.{begins_comment, pick}
 
--- a nonempty part of n bytes
+-- A nonempty part of n bytes.
 abbrev pub IsPart : ℕ → Lexeme → Type 0
 IsPart n w = (w.start < w.end) × (w.end ≤ n)
 
--- the first lexeme begins at the position or after it, and each other at the end of the one before or after it
+-- The first lexeme begins at the position or after it, and each other at the end of the one before or after it.
 abbrev pub AreInOrder : ℕ → List Lexeme → Type 0
 AreInOrder at [] = Unit {0}
 AreInOrder at (w ∷ ws) = (at ≤ w.start) × AreInOrder w.end ws
@@ -23,17 +23,17 @@ pub record AreSlices (line : List ℕ) (ws : List Lexeme) : Type 0 where
 abbrev pub is_name : LexemeKind → Bool
 is_name k = pick k true false false false
 
--- directly after a name, what follows its `#`
+-- Directly after a name, what follows its `#`.
 abbrev pub without_sharp : Bool → List ℕ → List ℕ
 without_sharp false cs = cs
 without_sharp true [] = []
 without_sharp true (c ∷ cs) = if c == 35 then cs else c ∷ cs
 
--- only spaces and tabs, and before them, directly after a name, one `#`
+-- Only spaces and tabs, and before them, directly after a name, one `#`.
 abbrev pub is_gap : Bool → List ℕ → Bool
 is_gap after_name cs = list_all is_blank (without_sharp after_name cs)
 
--- spaces and tabs to the end, or to a comment
+-- Spaces and tabs to the end, or to a comment.
 abbrev pub is_rest : List ℕ → Bool
 is_rest [] = true
 is_rest (c ∷ cs) = if is_blank c then is_rest cs else begins_comment c cs

@@ -10,7 +10,7 @@ use Rattle.asm_lexemes.specs.Bytes.{begins_letter}
 use Rattle.asm_lexemes.specs.Numbers.{number_token}
 use Rattle.asm_lexemes.specs.Registers.{register_of}
 
--- a name that is no register, by its first byte and its length
+-- A name that is no register, by its first byte and its length.
 abbrev pub other_name : List ℕ → Token
 other_name name =
     if begins_letter name then (if nat_le (length name) NAME_LIMIT then t.Name else t.LongName)
@@ -40,7 +40,7 @@ mark_token mark =
     else (if bytes_eq mark (codes ";;") then t.Stop
     else t.OtherMark)))))))))
 
--- what a lexeme of this kind and text may be read as
+-- What a lexeme of this kind and text may be read as.
 abbrev pub token_of : LexemeKind → List ℕ → Token
 token_of lexeme.Name text = name_token text
 token_of lexeme.Number text = number_token text

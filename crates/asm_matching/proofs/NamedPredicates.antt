@@ -14,12 +14,12 @@ use Rattle.asm_lexemes.specs.declared.tokens.Token.TheVariants as t
 use Rattle.asm_matching.specs.Related.{IsRelated, ArePredicates}
 use Rattle.asm_matching.specs.Relations.{is_named, named_predicates}
 
--- before the first number is looked at
+-- Before the first number is looked at.
 pub none_yet : (xs : List Token) (list : List ℕ) → list ≡ [] → list ++ filter (is_named xs) (range_with_len 1 15) ≡ named_predicates xs
 unfolding named_predicates
 none_yet xs list e = rw e refl
 
--- one number more is looked at: it is kept where it passes the test
+-- One number more is looked at: it is kept where it passes the test.
 pub kept : (test : ℕ → Bool) (list : List ℕ) (p n m : ℕ) → n ≡ suc m → test p ≡ true
     → (list ++ p ∷ []) ++ filter test (range_with_len (p + 1) m) ≡ list ++ filter test (range_with_len p n)
 kept test list p n m e h = rw (e, h) (append_snoc list p (filter test (range_with_len (p + 1) m)))
@@ -39,7 +39,7 @@ range_related = λ k d h. let is = get_or-range_with_len 1 15 k d h in (omega (a
 few_kept : (test : ℕ → Bool) (xs : List ℕ) → length (filter test xs) ≤ length xs
 few_kept test xs = omega (arith, length-filter test xs, count_by-le-length test xs)
 
--- where they are two or more, a relation may name them
+-- Where they are two or more, a relation may name them.
 pub are_predicates : (xs : List Token) → 2 ≤ length (named_predicates xs) → ArePredicates (named_predicates xs)
 unfolding named_predicates
 are_predicates xs some = record {
@@ -65,7 +65,7 @@ first_kept test a (suc n) p m h e l others = elim (cases_lt a p) [
       rw (here, rest, h) refl
 ]
 
--- two predicates in rising order are named
+-- Two predicates in rising order are named.
 abbrev pub two : ℕ → ℕ → List Token
 two p q = t.Mutex ∷ t.Comma ∷ t.Pr p ∷ t.Comma ∷ t.Pr q ∷ []
 

@@ -30,7 +30,7 @@ agreed items tokens =
     let at = agreed_items items tokens in
     if (at == length items) && is_stop_next (drop at tokens) then at + 1 else at
 
--- the most tokens on which a form agrees
+-- The most tokens on which a form agrees.
 abbrev pub reach : List Form → List Token → ℕ
 reach [] tokens = 0
 reach (f ∷ fs) tokens = max (agreed (row_of f).items tokens) (reach fs tokens)
@@ -44,14 +44,14 @@ abbrev pub is_of : Class → Option FormItem → Bool
 is_of c None = false
 is_of c (Some i) = is_in c i
 
--- the items agree so far, and one of the class is next
+-- The items agree so far, and one of the class is next.
 abbrev pub wants_next : Class → List FormItem → List Token → ℕ → Bool
 wants_next c items tokens at = (agreed items tokens == at) && is_of c (slice_get items at)
 
 abbrev pub wants : Class → List Form → List Token → ℕ → Bool
 wants c forms tokens at = list_any (λ f. wants_next c (row_of f).items tokens at) forms
 
--- a number that its field has no room for, or no number
+-- A number that its field has no room for, or no number.
 abbrev pub number_fault : Token → LineFault
 number_fault (t.Number _ _) = fault.Range
 number_fault t.TooLarge = fault.Range
@@ -68,7 +68,7 @@ fault_at register number label (Some x) =
     else (if number then number_fault x
     else fault.Form))
 
--- the fault at the first token on which no form agrees
+-- The fault at the first token on which no form agrees.
 abbrev pub fault_of : List Form → List Token → LineFault
 fault_of forms tokens =
     fault_at (wants class.Register forms tokens (reach forms tokens))

@@ -4,7 +4,7 @@ use Rattle.std.specs.Io.{StartsWith}
 use Rattle.std.proofs.lemmas.List.{take-append-drop}
 use Rattle.std.proofs.Math.Seq.{take-append_seam}
 
--- what starts with a longer text starts with its beginning
+-- What starts with a longer text starts with its beginning.
 pub kept_before : (after between before end : List ℕ) → between ≡ before ++ end → StartsWith after between → StartsWith after before
 kept_before after between before end h k =
     let m = length between in

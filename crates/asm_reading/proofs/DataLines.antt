@@ -8,7 +8,7 @@ use Rattle.asm_forms.specs.declared.items.NumberField.{NumberField}
 use Rattle.asm_instructions.specs.Operands.{wrapped, is_negative, magnitude}
 use Rattle.asm_reading.specs.Lines.{agreed_data, numbers_of}
 
--- after the last number that there may be nothing is wanted
+-- After the last number that there may be nothing is wanted.
 pub agreed_past : (f : NumberField) (at : ℕ) (xs : List Token) → NUMBER_TOKEN_LIMIT ≤ at → agreed_data f at xs ≡ 0
 agreed_past f at [] h = refl
 agreed_past f at (x ∷ xs) h = rw (le-ltb at NUMBER_TOKEN_LIMIT h) refl
@@ -17,7 +17,7 @@ numbers_step : (m : ℕ) (x : Token) (xs : List Token) → numbers_of m (x ∷ x
 numbers_step m x [] = refl
 numbers_step m x (y ∷ xs) = refl
 
--- one more number, and its comma is left out
+-- One more number, and its comma is left out.
 pub one_more : (m : ℕ) (tokens : List Token) (at : ℕ) (x : Token) (list new : List ℕ) (n : ℕ) → at < length tokens → x ≡ get_or tokens at x
     → n ≡ wrapped m (is_negative x) (magnitude x) → new ≡ list ++ n ∷ [] → new ++ numbers_of m (drop (at + 2) tokens) ≡ list ++ numbers_of m (drop at tokens)
 one_more m tokens at x list new n h is number grown =

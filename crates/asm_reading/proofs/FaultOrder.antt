@@ -13,7 +13,7 @@ use Rattle.asm_reading.proofs.FaultOrderFronts.{wrong_position}
 use Rattle.asm_reading.proofs.FaultOrderAnswers.{IsFound, beside_stages, Answers, value_answers}
 use Rattle.asm_reading.proofs.SomeAnswer.{line_or_fault}
 
--- the stages of a line by what they look at
+-- The stages of a line by what they look at.
 abbrev pub stages : Bool → Option Beside → Type 0 → List (Stage LineFault)
 stages plain o Last =
     unless (IsTrue plain) fault.Char
@@ -23,7 +23,7 @@ stages plain o Last =
     ∷ unless Last fault.Form
     ∷ []
 
--- each finds at most one fault
+-- Each finds at most one fault.
 some_same : (e f : LineFault) (o : Option LineFault) → o ≡ Some e → o ≡ Some f → e ≡ f
 some_same e f o is are = cc
 
@@ -48,7 +48,7 @@ sound plain o Last = (
   (unless_sound _ _, (before_sound (unwrap_or o nothing), (after_sound (unwrap_or o nothing), (unless_sound _ _, tt)))),
 )
 
--- a stage more, which is the last
+-- A stage more, which is the last.
 and_last : (some : List (Stage LineFault)) (Last : Type 0) (e : LineFault) → IsFirstFault some e ⊎ (ArePassed some × (e ≡ fault.Form)) → ¬ Last
     → IsFirstFault (some ++ unless Last fault.Form ∷ []) e
 and_last [] Last e (inl found) silent = absurd found
@@ -66,14 +66,14 @@ name_is e r a b = cc
 not_ok : (r : Result Line LineFault) (value : Line) → r ≡ Err fault.Name → r ≡ Ok value → ⊥
 not_ok r value a b = cc
 
--- what is answered is found
+-- What is answered is found.
 err_found : (plain : Bool) (o : Option Beside) (r : Result Line LineFault) (Last : Type 0) (e : LineFault) → Answers o r
     → (if plain then r else Err fault.Char) ≡ Err e → ¬ Last → IsFirstFault (stages plain o Last) e
 err_found false o r Last e answers is silent = inl (tt, char_is e (Err fault.Char) refl is, λ h. cc)
 err_found true None r Last e answers is silent = inr (refl, inl (tt, name_is e r answers is, λ h. cc))
 err_found true (Some b) r Last e answers is silent = inr (refl, inr (refl, and_last (beside_stages b) Last e (subst (IsFound (beside_stages b)) is answers) silent))
 
--- a line that is read passes the first stages
+-- A line that is read passes the first stages.
 ok_found : (plain : Bool) (o : Option Beside) (r : Result Line LineFault) (value : Line) (Last : Type 0) (e : LineFault) → Answers o r
     → (if plain then r else Err fault.Char) ≡ Ok value → ¬ Last → e ≡ fault.Form → IsFirstFault (stages plain o Last) e
 ok_found false o r value Last e answers is silent form = cc
@@ -89,7 +89,7 @@ ok_passed true (Some b) r value Last answers is last =
     let passed : ArePassed (beside_stages b) = subst (IsFound (beside_stages b)) is answers in
     (refl, (refl, (passed.0, (passed.1.0, (last, tt)))))
 
--- a line with a fault has no value
+-- A line with a fault has no value.
 same_value : (v w : Line) (r : Result Line LineFault) → r ≡ Ok v → r ≡ Ok w → v ≡ w
 same_value v w r a b = cc
 
@@ -114,7 +114,7 @@ line_sound bytes = sound (has_only_plain bytes) (beside_of (lexemes_of bytes)) (
 pub no_value : (bytes : List ℕ) (e : LineFault) → FaultOf bytes e → ¬ HasValue bytes
 no_value bytes e is says = no_fault (line_stages bytes) (line_sound bytes) (value_passes bytes says) e (fault_found bytes e is)
 
--- what is found is the fault
+-- What is found is the fault.
 pub found_fault : (bytes : List ℕ) (e : LineFault) → IsFirstFault (line_stages bytes) e → FaultOf bytes e
 found_fault bytes e found = elim (line_or_fault bytes) [
   | inl says ↦ absurd (no_fault (line_stages bytes) (line_sound bytes) (value_passes bytes says) e found)

@@ -40,23 +40,23 @@ abbrev pub IsFound : {A : Type 0} → List (Stage LineFault) → Result A LineFa
 IsFound stages (Ok x) = ArePassed stages
 IsFound stages (Err e) = IsFoundFault stages e
 
--- the later stages, after one that is passed
+-- The later stages, after one that is passed.
 past : {A : Type 0} (s : Stage LineFault) (later : List (Stage LineFault)) (r : Result A LineFault) → s.IsPassed → IsFound later r → IsFound (s ∷ later) r
 past s later (Ok x) passed found = (passed, found)
 past s later (Err e) passed (inl found) = inl (inr (passed, found))
 past s later (Err e) passed (inr (all, is)) = inr ((passed, all), is)
 
--- no fault but Form
+-- No fault but Form.
 abbrev OnlyForm : {A : Type 0} → Result A LineFault → Type 0
 OnlyForm (Ok x) = Unit {0}
 OnlyForm (Err e) = e ≡ fault.Form
 
--- where all stages are passed
+-- Where all stages are passed.
 all_passed : {A : Type 0} (stages : List (Stage LineFault)) (r : Result A LineFault) → ArePassed stages → OnlyForm r → IsFound stages r
 all_passed stages (Ok x) passed only = passed
 all_passed stages (Err e) passed only = inr (passed, only)
 
--- one step and then the next, which has no fault but Form
+-- One step and then the next, which has no fault but Form.
 then_found : {A B : Type 0} (stages : List (Stage LineFault)) (r : Result A LineFault) (f : A → Result B LineFault) → IsFound stages r → ((x : A) → OnlyForm (f x)) → IsFound stages (r >>= f)
 then_found stages (Ok x) f found only = all_passed stages (f x) found (only x)
 then_found stages (Err e) f found only = found
@@ -73,7 +73,7 @@ or_only (Some x) = tt
 abbrev after_stages : List Form → List Token → List (Stage LineFault)
 after_stages forms xs = after_stage (record { forms = forms; before = []; after = xs }) ∷ []
 
--- no token is left
+-- No token is left.
 no_token : (z : Operands) (forms : List Form) (xs : List Token) → slice_get xs (right_count z forms xs) ≡ None → fault_among z forms xs ≡ fault.Form
 no_token (Numbers z) forms xs e = rw e refl
 no_token Predicates forms xs e = rw e refl
@@ -98,11 +98,11 @@ stopped_at forms xs (Some x) e there is =
 stopped : (forms : List Form) (xs : List Token) (e : LineFault) → e ≡ fault_among (operands_of forms) forms xs → IsFoundFault (after_stages forms xs) e
 stopped forms xs e is = stopped_at forms xs _ e refl is
 
--- the fault of what forms have
+-- The fault of what forms have.
 same_fault : (z : Operands) (forms : List Form) (xs : List Token) → z ≡ OfForms → fault_of forms xs ≡ fault_among z forms xs
 same_fault z forms xs e = rw e refl
 
--- a value or a fault
+-- A value or a fault.
 or_found : {A : Type 0} (stages : List (Stage LineFault)) (o : Option A) (e : LineFault) → ((x : A) → o ≡ Some x → ArePassed stages)
     → IsFoundFault stages e → IsFound stages (or_fault o e)
 or_found stages None e passed found = found
@@ -116,7 +116,7 @@ if_found stages false x e passed found = found
 reach_all : (z : Operands) (forms : List Form) (xs : List Token) → z ≡ OfForms → length xs ≤ reach forms xs → right_count z forms xs ≡ length xs
 reach_all z forms xs e h = rw e (omega (arith, h, right_within OfForms forms xs))
 
--- the form of the operands
+-- The form of the operands.
 form_found : (forms : List Form) (operands xs : List Token) → operands_of forms ≡ OfForms
     → ((f : Form) → is_spelled operands f ≡ true → length xs ≤ agreed (row_of f).items xs) → IsFound (after_stages forms xs) (read_form forms operands xs)
 form_found forms operands xs by_form all =
@@ -124,14 +124,14 @@ form_found forms operands xs by_form all =
     (λ f is. (reach_all (operands_of forms) forms xs by_form (found_all (is_spelled operands) xs all forms f is), tt))
     (stopped forms xs (fault_of forms xs) (same_fault (operands_of forms) forms xs by_form))
 
--- the numbers of a data line
+-- The numbers of a data line.
 data_found : (z : AccessSize) (forms : List Form) (xs : List Token) → operands_of forms ≡ Numbers z → IsFound (after_stages forms xs) (data_of z xs)
 data_found z forms xs is =
     if_found (after_stages forms xs) ((agreed_data (data_field z) 0 xs == length xs) && (length xs % 2 == 1)) _ _
     (λ h. (rw is (eqb-true _ _ (left _ _ h)), tt))
     (stopped forms xs _ (rw is refl))
 
--- the predicates of a relation line
+-- The predicates of a relation line.
 relation_found : (forms : List Form) (xs : List Token) → operands_of forms ≡ Predicates → IsFound (after_stages forms xs) (relation_of xs)
 relation_found forms xs is =
     if_found (after_stages forms xs) ((agreed_relation [] xs == length xs) && ((length xs % 2 == 1) && nat_le 2 (length (named_predicates xs)))) _ _
@@ -195,7 +195,7 @@ alone_found : (forms : List Form) (before after : List KindAndText) (r : Result 
 alone_found forms [] after r other found = past (before_stage (beside forms [] after)) (after_stages forms (tokens after)) r (none_before (name_instruction forms)) found
 alone_found forms (b ∷ before) after r other found = inl (inl (fault.Form, refl, nothing_before (name_instruction forms) _ _ other))
 
--- lines by the first of their forms
+-- Lines by the first of their forms.
 by_row_found : (f : Form) (fs : List Form) (name : List ℕ) (before after : List KindAndText) (b : Bool) → is_instruction f ≡ b → operands_of (f ∷ fs) ≡ OfForms
     → IsFound (beside_stages (beside (f ∷ fs) before after)) (if b then slot_of (f ∷ fs) name before after else alone before (directive_of (f ∷ fs) after))
 by_row_found f fs name before after true is by_form = slot_found (f ∷ fs) name before after is by_form
@@ -218,7 +218,7 @@ among_answers : (forms : List Form) (name : List ℕ) (before after : List KindA
 among_answers [] name before after = refl
 among_answers (f ∷ fs) name before after = formed_found f fs name before after
 
--- what stands after a lexeme that names no form
+-- What stands after a lexeme that names no form.
 beside_none : (w : KindAndText) (ws : List KindAndText) → IsFoundFault (beside_stages (beside [] [] (w ∷ ws))) fault.Form
 beside_none w ws = inl (inr (refl, inl (0, refl, record { right = refl; wrong = λ e. omega (arith, e) })))
 
@@ -238,7 +238,7 @@ mark_led_answers t.OpenBrace before [] = refl
 mark_led_answers t.OpenBrace before (w ∷ after) = opened_as_answers (template_name_of w.1) before after
 mark_led_answers _ before after = refl
 
--- lines by their leading lexemes, and by the positions of these
+-- Lines by their leading lexemes, and by the positions of these.
 led_by_answers : (w : KindAndText) (before after : List KindAndText) → Answers (beside_lexeme w before after) (led_by w before after)
 led_by_answers (kind.Name, text) before after = among_answers (named_forms text) text before after
 led_by_answers (kind.Number, text) before after = refl
@@ -266,7 +266,7 @@ label_found text [] =
     (if_only (is_some (numbered_register text)) _ (named_only (name_of text) (λ name. line.Label name)))
 label_found text (w ∷ ws) = beside_none w ws
 
--- whole lines of plain bytes
+-- Whole lines of plain bytes.
 pub value_answers : (ws : List KindAndText) → Answers (beside_of ws) (value_of ws)
 value_answers [] = (refl, (refl, tt))
 value_answers (w ∷ []) = led_answers (w ∷ [])

@@ -21,14 +21,14 @@ use Rattle.asm_matching.specs.Relations.{may_follow, agreed_relation, relation_f
 use Rattle.asm_reading.specs.Lines.{is_some_stop, ends_in_stop, without_stop, data_field, data_item, agreed_data, data_fault}
 use Rattle.asm_reading.specs.FaultOrder.{Operands, Numbers, Predicates, OfForms, operands_of, right_count, fault_among, IsFirstWrong}
 
--- on how many tokens items agree, token by token
+-- On how many tokens items agree, token by token.
 abbrev walked : List FormItem → List Token → ℕ
 walked [] [] = 0
 walked [] (x ∷ xs) = if is_stop x then 1 else 0
 walked (i ∷ is) [] = 0
 walked (i ∷ is) (x ∷ xs) = if accepts i x then walked is xs + 1 else 0
 
--- one more item and one more token
+-- One more item and one more token.
 same_test : (a l : ℕ) → (a + 1 == suc l) ≡ (a == l)
 same_test a l = rw (add-one a) (eqb-suc-suc a l)
 
@@ -46,7 +46,7 @@ one_more a l x xs w h = rw (same_test a l, same_rest a x xs) (pushed ((a == l) &
 none_yet : (l : ℕ) (s : Bool) → (if (0 == suc l) && s then 0 + 1 else 0) ≡ 0
 none_yet l s = rw (eqb-zero-suc l) refl
 
--- one item and one token
+-- One item and one token.
 one_walked : (i : FormItem) (is : List FormItem) (x : Token) (xs : List Token) → agreed is xs ≡ walked is xs → agreed (i ∷ is) (x ∷ xs) ≡ walked (i ∷ is) (x ∷ xs)
 unfolding agreed
 one_walked i is x xs h = elim (accepts i x) as (λ b.
@@ -64,7 +64,7 @@ agreed_walked [] (x ∷ xs) = refl
 agreed_walked (i ∷ is) [] = none_yet (length is) false
 agreed_walked (i ∷ is) (x ∷ xs) = one_walked i is x xs (agreed_walked is xs)
 
--- one token more on both sides
+-- One token more on both sides.
 min_more : (n m : ℕ) (b : Bool) (k : ℕ) → k ≡ min n m → (if b then k + 1 else 0) ≡ min (suc n) (if b then m + 1 else 0)
 min_more n m true k h = omega (arith, h)
 min_more n m false k h = omega arith
@@ -101,14 +101,14 @@ walked_within [] (x ∷ xs) = one_at_most (is_stop x) (length xs)
 walked_within (i ∷ is) [] = omega arith
 walked_within (i ∷ is) (x ∷ xs) = more_at_most (accepts i x) (walked is xs) (length xs) (walked_within is xs)
 
--- the items of one form
+-- The items of one form.
 agreed_front : (items : List FormItem) (n : ℕ) (xs : List Token) → agreed items (take n xs) ≡ min n (agreed items xs)
 agreed_front items n xs = rw (agreed_walked items (take n xs), agreed_walked items xs) (walked_front items n xs)
 
 agreed_within : (items : List FormItem) (xs : List Token) → agreed items xs ≤ length xs
 agreed_within items xs = rw (agreed_walked items xs) (walked_within items xs)
 
--- the forms of a lexeme
+-- The forms of a lexeme.
 reach_front : (forms : List Form) (n : ℕ) (xs : List Token) → reach forms (take n xs) ≡ min n (reach forms xs)
 reach_front [] n xs = omega arith
 reach_front (f ∷ fs) n xs = omega (arith, agreed_front (row_of f).items n xs, reach_front fs n xs)
@@ -117,7 +117,7 @@ reach_within : (forms : List Form) (xs : List Token) → reach forms xs ≤ leng
 reach_within [] xs = omega arith
 reach_within (f ∷ fs) xs = omega (arith, agreed_within (row_of f).items xs, reach_within fs xs)
 
--- numbers and commas
+-- Numbers and commas.
 data_front : (f : NumberField) (at n : ℕ) (xs : List Token) → agreed_data f at (take n xs) ≡ min n (agreed_data f at xs)
 data_front f at zero xs = none_min (agreed_data f at xs)
 data_front f at (suc n) [] = omega arith
@@ -127,7 +127,7 @@ data_within : (f : NumberField) (at : ℕ) (xs : List Token) → agreed_data f a
 data_within f at [] = omega arith
 data_within f at (x ∷ xs) = more_at_most (nat_lt at NUMBER_TOKEN_LIMIT && accepts (data_item f at) x) _ _ (data_within f (at + 1) xs)
 
--- predicates and commas
+-- Predicates and commas.
 relation_front : (before : List Token) (n : ℕ) (xs : List Token) → agreed_relation before (take n xs) ≡ min n (agreed_relation before xs)
 relation_front before zero xs = none_min (agreed_relation before xs)
 relation_front before (suc n) [] = omega arith
@@ -240,7 +240,7 @@ stopped_within (i ∷ is) (y ∷ xs) (suc n) x few is_x stop h =
     let rest : length xs ≤ walked is xs = stopped_within is xs n x (omega (arith, few)) is_x stop (right (accepts i y) _ h) in
     rw first (omega (arith, rest))
 
--- the token before the stop is the last operand
+-- The token before the stop is the last operand.
 stop_at_end : (items : List FormItem) (xs : List Token) (o : Option Token) → slice_get xs (length xs - 1) ≡ o → is_some_stop o ≡ true
     → pointwise accepts items (take (length xs - 1) xs) ≡ true → length xs ≤ walked items xs
 stop_at_end items xs None is stop h = cc

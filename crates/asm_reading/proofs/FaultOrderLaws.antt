@@ -19,7 +19,7 @@ use Rattle.asm_reading.specs.FaultOrder.{lexemes_of, Beside, nothing, beside_of,
 use Rattle.asm_reading.proofs.FaultOrder.{stages, fault_found, found_fault, no_value}
 use Rattle.asm_reading.proofs.SomeAnswer.{line_or_fault}
 
--- one of the four faults that come of what stands beside a leading lexeme
+-- One of the four faults that come of what stands beside a leading lexeme.
 abbrev IsBeside : LineFault → Type 0
 IsBeside fault.Char = ⊥
 IsBeside fault.Name = ⊥
@@ -53,7 +53,7 @@ among_beside Predicates forms xs = relation_beside (wants_predicate (agreed_rela
 among_beside (Numbers z) forms xs = token_beside false _ false (slice_get xs (agreed_data (data_field z) 0 xs))
 among_beside OfForms forms xs = token_beside _ _ _ (slice_get xs (reach forms xs))
 
--- a predicate's too
+-- A predicate's too.
 abbrev AreBeside : Option LineFault → Type 0
 AreBeside None = Unit {0}
 AreBeside (Some e) = IsBeside e

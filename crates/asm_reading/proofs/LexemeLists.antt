@@ -15,18 +15,18 @@ use Rattle.asm_lexemes.specs.Lexemes.{lexemes_from}
 use Rattle.asm_reading.specs.declared.line.Line.{Line}
 use Rattle.asm_reading.specs.Lines.{KindAndText, AreParts, texts, value_of, led, led_at, led_by, worded, label_of, label_name, reading_of}
 
--- a label has nothing after its colon
+-- A label has nothing after its colon.
 pub label_alone : (text line : List ℕ) (ws : List Lexeme) → 1 ≤ length ws → Err fault.Form ≡ label_of text (texts line ws)
 label_alone text line [] h = absurd (omega (arith, h))
 label_alone text line (w ∷ ws) h = refl
 
--- one lexeme is no label
+-- One lexeme is no label.
 pub one_lexeme : (line : List ℕ) (ws : List Lexeme) → 1 ≤ length ws → length ws < 2 → led (texts line ws) ≡ value_of (texts line ws)
 one_lexeme line [] some few = absurd (omega (arith, some))
 one_lexeme line (w ∷ []) some few = refl
 one_lexeme line (w ∷ x ∷ ws) some few = absurd (omega (arith, few))
 
--- the leading lexeme, what stands before it and what follows it
+-- The leading lexeme, what stands before it and what follows it.
 pub led_there : (line : List ℕ) (ws before after : List Lexeme) (k : ℕ) (d : Lexeme) → k < length ws → before ≡ take k ws → after ≡ drop (k + 1) ws
     → led_by ((get_or ws k d).kind, slice_range line (get_or ws k d).start (get_or ws k d).end) (texts line before) (texts line after) ≡ led_at (texts line ws) (Some k)
 led_there line ws before after k d h front rest =
@@ -36,15 +36,15 @@ led_there line ws before after k d h front rest =
     let a : drop (k + 1) (texts line ws) ≡ texts line after = drop-map view (k + 1) ws ∙ ap (texts line) (sym rest) in
     rw (there, b, a) refl
 
--- a line that a name leads
+-- A line that a name leads.
 pub led_name : (k : LexemeKind) (text part : List ℕ) (before after : List KindAndText) (r : Result Line LineFault) → k ≡ kind.Name → text ≡ part → r ≡ worded text before after → r ≡ led_by (k, part) before after
 led_name k text part before after r e t h = h ∙ ap (λ w. worded w before after) t ∙ ap (λ q. led_by (q, part) before after) (sym e)
 
--- the lexemes of a line are read by their kinds and texts
+-- The lexemes of a line are read by their kinds and texts.
 pub read_by_text : (line : List ℕ) (ws : List Lexeme) → ws ≡ lexemes_from 0 0 line → has_only_plain line ≡ true → value_of (texts line ws) ≡ reading_of line
 read_by_text line ws e plain = rw (e, plain) refl
 
--- the name of the label is not among the lexemes where they end before it
+-- The name of the label is not among the lexemes where they end before it.
 pub label_missing : (line : List ℕ) (is : List FormItem) (ws : List Lexeme) → length ws < 1 → None ≡ label_name is (texts line ws)
 label_missing line [] [] few = refl
 label_missing line (i ∷ is) [] few = refl

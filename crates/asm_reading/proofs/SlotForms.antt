@@ -35,7 +35,7 @@ pub slot_first : (fs : List Form) (p : Form → Bool) (f : Form) (name : List �
 slot_first [] p f name before after h e = cc
 slot_first (g ∷ gs) p f name before after h e = formed_slot g (g ∷ gs) name before after (left _ _ h)
 
--- what a stem begins with, so does a name of it
+-- What a stem begins with, so does a name of it.
 same_byte : (c d : ℕ) → nat_eq d c ≡ true → c ≡ d
 same_byte c d h = sym (eqb-true d c h)
 
@@ -50,7 +50,7 @@ directive_so (c ∷ b ∷ name) (d ∷ e ∷ w) h k =
     let rest : (nat_eq e b && starts_with nat_eq name w) ≡ true = right (nat_eq d c) _ h in
     rw (same_byte c d first, same_byte b e (left _ _ rest)) k
 
--- the rows of other stems are of slot lines
+-- The rows of other stems are of slot lines.
 stems_tell : list_all (λ r. is_directive_name r.stem || is_instruction r.form) rows ≡ true
 stems_tell = refl
 
@@ -76,12 +76,12 @@ kept_slots name (r ∷ rs) plain known = kept_one (is_named name r) refl (kept_s
 pub all_slots : (name : List ℕ) → is_directive_name name ≡ false → list_all is_instruction (named_forms name) ≡ true
 all_slots name plain = kept_slots name rows plain stems_tell
 
--- what is made of an instruction, where there is one
+-- What is made of an instruction, where there is one.
 lined : (o : Option Op) (f : Op → Line) → (or_fault o fault.Form >>= λ x. Ok (f x)) ≡ or_fault (option_map f o) fault.Form
 lined None f = refl
 lined (Some x) f = refl
 
--- a form that is read makes its slot line, or has the fault that it makes none
+-- A form that is read makes its slot line, or has the fault that it makes none.
 pub slot_made : (qp : ℕ) (forms : List Form) (name : List ℕ) (xs : List Token) (after : List KindAndText) (f : Form) (o : Option Line)
     → read_form forms (without_stop xs) xs ≡ Ok f → slot_line qp f (completers_or_none f name) xs after ≡ o → slot_under qp forms name xs after ≡ or_fault o fault.Form
 slot_made qp forms name xs after f o read is =
@@ -91,7 +91,7 @@ slot_made qp forms name xs after f o read is =
 pub found_read : (forms : List Form) (operands xs : List Token) (f : Form) → find (is_spelled operands) forms ≡ Some f → read_form forms operands xs ≡ Ok f
 found_read forms operands xs f h = rw h refl
 
--- a slot line whose parts are found is what the name says
+-- A slot line whose parts are found is what the name says.
 slot_read : (name : List ℕ) (before after : List KindAndText) (qp : ℕ) (f : Form) (cs : List Completer) (value : Line)
     → is_directive_name name ≡ false → predicate_of (tokens before) ≡ Ok qp → find (is_spelled (without_stop (tokens after))) (named_forms name) ≡ Some f
     → completers f name ≡ Some cs → slot_line qp f cs (tokens after) after ≡ Some value → worded name before after ≡ Ok value
@@ -108,7 +108,7 @@ pub slot_if_read : (name : List ℕ) (before after : List KindAndText) (qp : ℕ
 slot_if_read name before after qp f cs None plain guarded found named is = tt
 slot_if_read name before after qp f cs (Some value) plain guarded found named is = slot_read name before after qp f cs value plain guarded found named (sym is)
 
--- what holds of a value that is made holds of it where it is put
+-- What holds of a value that is made holds of it where it is put.
 pub put_there : {A : Type 0} (P : Line → Type 0) (r : Option A) (value : Line) → IfSome (option_map (λ x. value) r) P → IfSome r (λ x. P value)
 put_there P None value h = tt
 put_there P (Some x) value h = h

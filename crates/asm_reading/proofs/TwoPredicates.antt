@@ -6,7 +6,7 @@ use Rattle.asm_matching.proofs.NamedPredicates.{two, two_named}
 use Rattle.asm_reading.specs.declared.line.Line.TheVariants as line
 use Rattle.asm_reading.specs.Lines.{relation_of}
 
--- a line with two predicates in rising order declares them
+-- A line with two predicates in rising order declares them.
 pub two_read : (p q : ℕ) → 1 ≤ p → p < q → q ≤ 15 → relation_of (two p q) ≡ Ok (line.Relation (p ∷ q ∷ []))
 two_read p q some less few =
     let low : leb 1 p ≡ true = le-leb 1 p some in

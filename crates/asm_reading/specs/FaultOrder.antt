@@ -38,7 +38,7 @@ beside forms before after = record { forms = forms; before = tokens before; afte
 abbrev pub nothing : Beside
 nothing = beside [] [] []
 
--- a directive's or an instruction's name, by the forms that it names
+-- A directive's or an instruction's name, by the forms that it names.
 abbrev pub beside_name : List Form → List KindAndText → List KindAndText → Option Beside
 beside_name [] before after = None
 beside_name (f ∷ fs) before after = Some (beside (f ∷ fs) before after)
@@ -56,7 +56,7 @@ beside_lexeme (kind.Number, text) before after = None
 beside_lexeme (kind.Quoted, text) before after = None
 beside_lexeme (kind.Mark, text) before after = beside_mark (token_of kind.Mark text) before after
 
--- the leading lexeme is the one at this position
+-- The leading lexeme is the one at this position.
 abbrev pub beside_at : List KindAndText → ℕ → Option Beside
 beside_at ws k = option_and_then (λ w. beside_lexeme w (take k ws) (drop (k + 1) ws)) (slice_get ws k)
 
@@ -71,7 +71,7 @@ beside_of (w ∷ []) = beside_lead (w ∷ [])
 beside_of (w ∷ x ∷ ws) =
     if is_name_lexeme w && is_colon (token_of x.0 x.1) then Some (beside [] [] ws) else beside_lead (w ∷ x ∷ ws)
 
--- the forms are those of an instruction's name
+-- The forms are those of an instruction's name.
 abbrev pub name_instruction : List Form → Bool
 name_instruction [] = false
 name_instruction (f ∷ fs) = is_instruction f
@@ -80,13 +80,13 @@ abbrev pub fault_in : {A : Type 0} → Result A LineFault → Option LineFault
 fault_in (Ok x) = None
 fault_in (Err e) = Some e
 
--- the fault of a predicate, which may stand before an instruction's name; nothing may before another lexeme
+-- The fault of a predicate, which may stand before an instruction's name; nothing may before another lexeme.
 abbrev pub predicate_fault : Bool → List Token → Option LineFault
 predicate_fault instruction [] = None
 predicate_fault false (x ∷ xs) = Some fault.Form
 predicate_fault true (x ∷ xs) = fault_in (predicate_of (x ∷ xs))
 
--- the fault of what stands before the leading lexeme
+-- The fault of what stands before the leading lexeme.
 abbrev pub fault_before : Beside → Option LineFault
 fault_before b = predicate_fault (name_instruction b.forms) b.before
 
@@ -105,18 +105,18 @@ operands_of (form.Data8 ∷ fs) = Numbers size.Eight
 operands_of (form.PredRel ∷ fs) = Predicates
 operands_of _ = OfForms
 
--- how many tokens at the front are right: numbers and commas in turn, `"mutex"` and then commas and predicates in
--- turn, or what one of the forms has there, with a stop after all that it has
+-- How many tokens at the front are right: numbers and commas in turn, `"mutex"` and then commas and predicates in
+-- turn, or what one of the forms has there, with a stop after all that it has.
 abbrev pub right_count : Operands → List Form → List Token → ℕ
 right_count (Numbers z) forms xs = agreed_data (data_field z) 0 xs
 right_count Predicates forms xs = agreed_relation [] xs
 right_count OfForms forms xs = reach forms xs
 
--- each of the tokens is right
+-- Each of the tokens is right.
 abbrev pub AreRight : List Form → List Token → Type 0
 AreRight forms xs = right_count (operands_of forms) forms xs ≡ length xs
 
--- the fault of the first of the tokens that isn't right, by what is wanted there
+-- The fault of the first of the tokens that isn't right, by what is wanted there.
 abbrev pub fault_among : Operands → List Form → List Token → LineFault
 fault_among (Numbers z) forms xs = data_fault (agreed_data (data_field z) 0 xs) xs
 fault_among Predicates forms xs = relation_fault (agreed_relation [] xs) xs
@@ -127,7 +127,7 @@ pub record IsFirstWrong (forms : List Form) (xs : List Token) (at : ℕ) : Type 
   pub right : AreRight forms (take at xs)
   pub wrong : ¬ AreRight forms (take (at + 1) xs)
 
--- the fault of the token at a position, by this one and those before it alone
+-- The fault of the token at a position, by this one and those before it alone.
 abbrev pub fault_of_token : List Form → List Token → ℕ → LineFault
 fault_of_token forms xs at = fault_among (operands_of forms) forms (take (at + 1) xs)
 
@@ -138,7 +138,7 @@ before_stage b = first LineFault (λ e. e) (λ e. fault_before b ≡ Some e) (fa
 abbrev pub after_stage : Beside → Stage LineFault
 after_stage b = first ℕ (fault_of_token b.forms b.after) (IsFirstWrong b.forms b.after) (AreRight b.forms b.after)
 
--- a line that says something
+-- A line that says something.
 abbrev pub HasValue : List ℕ → Type 0
 HasValue bytes = (value : Line) × LineOf bytes value
 

@@ -54,31 +54,31 @@ abbrev pub or_fault : {A : Type 0} → Option A → LineFault → Result A LineF
 or_fault None e = Err e
 or_fault (Some x) e = Ok x
 
--- what is said where a value is put into a place: the value there, or the fault
+-- What is said where a value is put into a place: the value there, or the fault.
 abbrev pub put : {A : Type 0} → Result A LineFault → Line → Result Line LineFault
 put (Ok x) value = Ok value
 put (Err e) value = Err e
 
--- a lexeme by its kind and its text
+-- A lexeme by its kind and its text.
 abbrev pub KindAndText : Type 0
 KindAndText = LexemeKind × List ℕ
 
--- the lexemes of a line by their kinds and texts
+-- The lexemes of a line by their kinds and texts.
 abbrev pub texts : List ℕ → List Lexeme → List KindAndText
 texts bytes ws = map (λ w. (w.kind, slice_range bytes w.start w.end)) ws
 
--- each is a part of the line
+-- Each is a part of the line.
 abbrev pub AreParts : List ℕ → List Lexeme → Type 0
 AreParts bytes ws = All (IsPart (length bytes)) ws
 
 abbrev pub tokens : List KindAndText → List Token
 tokens ws = map (λ w. token_of w.0 w.1) ws
 
--- a name has 1 to NAME_LIMIT bytes
+-- A name has 1 to NAME_LIMIT bytes.
 abbrev pub name_of : List ℕ → Option (List ℕ)
 name_of text = if nat_le 1 (length text) && nat_le (length text) NAME_LIMIT then Some text else None
 
--- the name at the position of the label among these items
+-- The name at the position of the label among these items.
 abbrev pub label_name : List FormItem → List KindAndText → Option (List ℕ)
 label_name [] ws = None
 label_name (i ∷ is) [] = None
@@ -92,12 +92,12 @@ abbrev pub is_close : Token → Bool
 is_close t.CloseParenthesis = true
 is_close _ = false
 
--- how many lexemes there are up to the first `)`
+-- How many lexemes there are up to the first `)`.
 abbrev pub past_parenthesis : List Token → Option ℕ
 past_parenthesis [] = None
 past_parenthesis (x ∷ xs) = if is_close x then Some 1 else option_map (λ n. n + 1) (past_parenthesis xs)
 
--- how many lexemes stand before the leading one: a qualifying predicate, or nothing
+-- How many lexemes stand before the leading one: a qualifying predicate, or nothing.
 abbrev pub lead_at : List Token → Option ℕ
 lead_at [] = None
 lead_at (x ∷ xs) = if is_open x then past_parenthesis (x ∷ xs) else Some 0
@@ -109,7 +109,7 @@ is_some_stop (Some x) = is_stop x
 abbrev pub ends_in_stop : List Token → Bool
 ends_in_stop xs = is_some_stop (slice_get xs (length xs - 1))
 
--- the operands, without the stop after them
+-- The operands, without the stop after them.
 abbrev pub without_stop : List Token → List Token
 without_stop xs = if ends_in_stop xs then take (length xs - 1) xs else xs
 
@@ -121,7 +121,7 @@ predicate_of (x ∷ t.Pr p ∷ t.CloseParenthesis ∷ []) = Ok p
 predicate_of (x ∷ t.Pr p ∷ ys) = Err fault.Form
 predicate_of (x ∷ y ∷ ys) = Err fault.Register
 
--- the unit letter is missing
+-- The unit letter is missing.
 abbrev pub is_missing : Said → Bool
 is_missing said.NoUnit = true
 is_missing _ = false
@@ -143,7 +143,7 @@ slot_under qp forms name xs after = do
   x ← or_fault (op_of f (completers_or_none f name) (taken (row_of f).items (without_stop xs))) fault.Form
   Ok (line.Slot (draft_of f (completers_or_none f name) qp after x) (ends_in_stop xs))
 
--- a slot line: the predicate is read first, and then the operands
+-- A slot line: the predicate is read first, and then the operands.
 abbrev pub slot_of : List Form → List ℕ → List KindAndText → List KindAndText → Result Line LineFault
 slot_of forms name before after =
     predicate_of (tokens before) >>= λ qp. slot_under qp forms name (tokens after) after
@@ -158,12 +158,12 @@ data_field size.Eight = field.Imm64
 abbrev pub data_item : NumberField → ℕ → FormItem
 data_item f at = if at % 2 == 0 then Takes (takes.Number f) 0 else Is fixed.Comma
 
--- on how many tokens from the position on there are numbers and commas in turn
+-- On how many tokens from the position on there are numbers and commas in turn.
 abbrev pub agreed_data : NumberField → ℕ → List Token → ℕ
 agreed_data f at [] = 0
 agreed_data f at (x ∷ xs) = if nat_lt at NUMBER_TOKEN_LIMIT && accepts (data_item f at) x then agreed_data f (at + 1) xs + 1 else 0
 
--- every second token is a number, modulo what its bytes hold
+-- Every second token is a number, modulo what its bytes hold.
 abbrev pub numbers_of : ℕ → List Token → List ℕ
 numbers_of modulus [] = []
 numbers_of modulus (x ∷ []) = wrapped modulus (is_negative x) (magnitude x) ∷ []
@@ -192,7 +192,7 @@ abbrev pub named : Option (List ℕ) → (List ℕ → Line) → Result Line Lin
 named None value = Err fault.Form
 named (Some name) value = Ok (value name)
 
--- the value of a directive's form
+-- The value of a directive's form.
 abbrev pub directive_value : Form → List KindAndText → Result Line LineFault
 directive_value form.Text after = Ok line.Text
 directive_value form.Data after = Ok line.Data
@@ -219,16 +219,16 @@ formed form.Data8 forms name before after = alone before (data_of size.Eight (to
 formed form.PredRel forms name before after = alone before (relation_of (tokens after))
 formed f forms name before after = if is_instruction f then slot_of forms name before after else alone before (directive_of forms after)
 
--- a line whose leading name names these forms, the first of which decides what the line is
+-- A line whose leading name names these forms, the first of which decides what the line is.
 abbrev pub among : List Form → List ℕ → List KindAndText → List KindAndText → Result Line LineFault
 among [] name before after = Err fault.Name
 among (f ∷ fs) name before after = formed f (f ∷ fs) name before after
 
--- a line that a name leads
+-- A line that a name leads.
 abbrev pub worded : List ℕ → List KindAndText → List KindAndText → Result Line LineFault
 worded name before after = among (named_forms name) name before after
 
--- a mark that stands alone
+-- A mark that stands alone.
 abbrev pub marked : Line → List KindAndText → List KindAndText → Result Line LineFault
 marked value [] [] = Ok value
 marked value before after = Err fault.Form
@@ -249,7 +249,7 @@ abbrev pub all_template_names : List TemplateName
 all_template_names =
     template.Mii ∷ template.Mlx ∷ template.Mmi ∷ template.Mfi ∷ template.Mmf ∷ template.Mib ∷ template.Mbb ∷ template.Bbb ∷ template.Mmb ∷ template.Mfb ∷ []
 
--- the template name that a lexeme is
+-- The template name that a lexeme is.
 abbrev pub template_name_of : List ℕ → Option TemplateName
 template_name_of text = find (λ s. bytes_eq (template_name_text s) text) all_template_names
 
@@ -262,7 +262,7 @@ abbrev pub opened : List KindAndText → List KindAndText → Result Line LineFa
 opened before [] = Err fault.Name
 opened before (w ∷ after) = opened_as (template_name_of w.1) before after
 
--- a line that a mark leads
+-- A line that a mark leads.
 abbrev pub mark_led : Token → List KindAndText → List KindAndText → Result Line LineFault
 mark_led t.Stop before after = marked line.Stop before after
 mark_led t.CloseBrace before after = marked line.Close before after
@@ -283,7 +283,7 @@ abbrev pub led_at : List KindAndText → Option ℕ → Result Line LineFault
 led_at ws None = Err fault.Name
 led_at ws (Some k) = led_by_some (slice_get ws k) (take k ws) (drop (k + 1) ws)
 
--- a line that is no label
+-- A line that is no label.
 abbrev pub led : List KindAndText → Result Line LineFault
 led ws = led_at ws (lead_at (tokens ws))
 
@@ -294,7 +294,7 @@ abbrev pub is_colon : Token → Bool
 is_colon t.Colon = true
 is_colon _ = false
 
--- a label stands alone, and is spelled as no register by number
+-- A label stands alone, and is spelled as no register by number.
 abbrev pub label_of : List ℕ → List KindAndText → Result Line LineFault
 label_of text [] = if is_some (numbered_register text) then Err fault.Form else named (name_of text) (λ name. line.Label name)
 label_of text (w ∷ ws) = Err fault.Form
@@ -307,11 +307,11 @@ value_of (w ∷ []) = led (w ∷ [])
 value_of (w ∷ x ∷ ws) =
     if is_name_lexeme w && is_colon (token_of x.0 x.1) then label_of w.1 ws else led (w ∷ x ∷ ws)
 
--- what the bytes of a line say, but for whether its instruction is listed
+-- What the bytes of a line say, but for whether its instruction is listed.
 abbrev pub reading_of : List ℕ → Result Line LineFault
 reading_of bytes = if has_only_plain bytes then value_of (texts bytes (lexemes_from 0 0 bytes)) else Err fault.Char
 
--- the instruction of a slot line is listed
+-- The instruction of a slot line is listed.
 abbrev pub IsListedLine : Line → Type 0
 IsListedLine (line.Slot draft stop) = IsListed draft.insn
 IsListedLine _ = Unit {0}

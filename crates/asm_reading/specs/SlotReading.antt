@@ -17,7 +17,7 @@ is_directive_name [] = false
 is_directive_name (c ∷ []) = c == 46
 is_directive_name (c ∷ d ∷ cs) = (c == 46) || ((c == 100) && (d == 97))
 
--- the slot line of a form with these completers and the tokens after its name, where they make an instruction
+-- The slot line of a form with these completers and the tokens after its name, where they make an instruction.
 abbrev pub slot_line : ℕ → Form → List Completer → List Token → List KindAndText → Option Line
 slot_line qp f cs xs after =
     option_map (λ x. line.Slot (draft_of f cs qp after x) (ends_in_stop xs)) (op_of f cs (taken (row_of f).items (without_stop xs)))

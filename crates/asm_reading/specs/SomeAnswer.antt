@@ -4,6 +4,6 @@ use Rattle.asm_lexemes.specs.declared.fault.LineFault.{LineFault}
 use Rattle.asm_reading.specs.declared.line.Line.{Line}
 use Rattle.asm_reading.specs.Lines.{LineOf, FaultOf}
 
--- the line has a value, or a first fault
+-- The line has a value, or a first fault.
 abbrev pub LineOrFault : List ℕ → Type 0
 LineOrFault bytes = ((value : Line) × LineOf bytes value) ⊎ ((e : LineFault) × FaultOf bytes e)

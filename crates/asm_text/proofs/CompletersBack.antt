@@ -24,7 +24,7 @@ use Rattle.asm_canonical.specs.Canonical.{is_said, completer_of}
 use Rattle.insn_rows.specs.WellMade.{is_of_kind}
 use Rattle.asm_text.proofs.OperandsBack.{is_shaped, resting}
 
--- what is said is a value
+-- What is said is a value.
 abbrev pub is_value : Said → Bool
 is_value (said.Flag b) = true
 is_value (said.Small n) = true
@@ -63,7 +63,7 @@ value_is_there : (s : Said) → is_value s ≡ true → is_missing s ≡ false
 value_is_there said.NoUnit h = cc
 value_is_there s h = refl
 
--- what is found is an element that passes
+-- What is found is an element that passes.
 found_passes : {A : Type 0} (p : A → Bool) (xs : List A) (x : A) → find p xs ≡ Some x → p x ≡ true
 found_passes p [] x e = cc
 found_passes p (y ∷ ys) x e =
@@ -84,7 +84,7 @@ some_is : {A : Type 0} (o : Option A) (d : A) → is_some o ≡ true → o ≡ S
 some_is None d h = cc
 some_is (Some x) d h = refl
 
--- the numbers below a limit
+-- The numbers below a limit.
 abbrev pub below : ℕ → List ℕ
 below zero = []
 below (suc n) = n ∷ below n
@@ -96,7 +96,7 @@ is_below n (suc k) h = elim (eqb n k) as (λ b. (b ≡ eqb n k) → (n ≡ k) �
   | false ↦ λ e. inr (is_below n k (grind (arith, h, e)))
 ] refl
 
--- the values of a coding that has few
+-- The values of a coding that has few.
 abbrev pub is_few : Coding → ℕ → Bool
 is_few c.Flag width = true
 is_few c.Small width = nat_le width 2
@@ -171,7 +171,7 @@ says_opcode s x =
     is_some (find (λ m. is_said m.says x (v.Pr 0)) (members s))
     && (not (is_value (completer_of s x (v.Pr 0)).says) && not (is_missing (completer_of s x (v.Pr 0)).says))
 
--- what a completer is that says a value, and what one that doesn't
+-- What a completer is that says a value, and what one that doesn't.
 pub record SaysValue (s : CompleterSet) (x : Opcode) (value : Value) : Type 0 where
   pub chosen : Contains (members s) (completer_of s x value)
   pub there : is_missing (completer_of s x value).says ≡ false

@@ -12,7 +12,7 @@ use Rattle.asm_reading.specs.SlotReading.{is_directive_name}
 use Rattle.asm_reading.proofs.SlotForms.{all_slots}
 use Rattle.asm_printing.specs.SlotTexts.{mnemonic_text}
 
--- a printed mnemonic begins as its stem
+-- A printed mnemonic begins as its stem.
 abbrev plain_stem : List ℕ → Bool
 plain_stem [] = false
 plain_stem (c ∷ []) = false

@@ -39,7 +39,7 @@ use Rattle.asm_text.proofs.CompletersBack.{is_few, every, few, all_of}
 use Rattle.asm_text.proofs.FormsBack.{width_at, taken_at, AreTaken, agrees, agreement, begun, read_by, fit_by, are_chosen, none_missing}
 use Rattle.asm_text.proofs.WayBack.{ReadsBack}
 
--- the instructions whose values are written otherwise than words have them: a frame, and long immediates
+-- The instructions whose values are written otherwise than words have them: a frame, and long immediates.
 abbrev pub is_apart : Opcode → Bool
 is_apart o.Alloc = true
 is_apart o.Movl = true
@@ -47,7 +47,7 @@ is_apart (o.Break u) = true
 is_apart (o.Nop u) = true
 is_apart _ = false
 
--- an instruction has a target
+-- An instruction has a target.
 abbrev pub has_target : Opcode → Bool
 has_target (o.ChkS u) = true
 has_target o.ChkA = true
@@ -62,7 +62,7 @@ target_is (op.Br kind wh many clr disp) = refl
 target_is (op.BrCall b1 wh many clr disp) = refl
 target_is x = refl
 
--- nothing is computed by the form
+-- Nothing is computed by the form.
 abbrev pub is_plain : Form → Bool
 is_plain form.AddImm = false
 is_plain form.ShlNumber = false
@@ -98,7 +98,7 @@ abbrev pub all_stand_ins : List Operand → List (List Value)
 all_stand_ins [] = [] ∷ []
 all_stand_ins (x ∷ xs) = flat_map (λ value. map (λ vs. value ∷ vs) (all_stand_ins xs)) (stand_ins x)
 
--- the values are the same where there are few
+-- The values are the same where there are few.
 StandsFor : List Operand → List Value → List Value → Type 0
 StandsFor [] vs ws = Unit {0}
 StandsFor (x ∷ xs) (a ∷ vs) (b ∷ ws) = (is_few x.coding (operand_width x) ≡ true → a ≡ b) × StandsFor xs vs ws
@@ -131,7 +131,7 @@ stands_at (x ∷ xs) (a ∷ vs) (b ∷ ws) (suc n) h f = stands_at xs vs ws n h.
 stands_at (x ∷ xs) [] ws n h f = absurd h
 stands_at (x ∷ xs) (a ∷ vs) [] n h f = absurd h
 
--- the values of a form's own are of operands that have few
+-- The values of a form's own are of operands that have few.
 abbrev pub looks_at_few : List Operand → Form → Bool
 looks_at_few os f = list_all (λ s. is_few (coding_at os s.1) (width_at os s.1)) (row_of f).fixed
 
@@ -146,7 +146,7 @@ find_same : (p q : Form → Bool) (fs : List Form) → ((f : Form) → IsOneOf f
 find_same p q [] h = refl
 find_same p q (f ∷ fs) h = rw (h f (inl refl), find_same p q fs (λ g k. h g (inr k))) refl
 
--- the value that the form has of its own is one of the coding's
+-- The value that the form has of its own is one of the coding's.
 abbrev pub may_have : List Operand → Opcode → Form → Bool
 may_have os o f = list_all (λ s. list_any (λ value. is_said s.0 o value) (every (coding_at os s.1) (width_at os s.1))) (row_of f).fixed
 
@@ -162,7 +162,7 @@ may os o vs (s ∷ fs) t f e =
     and_from _ _ (any_of (λ value. is_said s.0 o value) (every (coding_at os s.1) (width_at os s.1)) (at vs s.1) (few (coding_at os s.1) (width_at os s.1) (at vs s.1) (left _ _ f) (taken_at os vs s.1 t)) (left _ _ e))
     (may os o vs fs t (right _ _ f) (right _ _ e))
 
--- what is wanted of a form of a row's opcode
+-- What is wanted of a form of a row's opcode.
 abbrev pub form_agrees : List Operand → Opcode → Form → Bool
 form_agrees os o f =
     agrees os o (row_of f) && (is_plain f && (is_instruction f && same_bool (list_any is_label_item (row_of f).items) (has_target o)))
@@ -206,7 +206,7 @@ implied : (a b : Bool) → a ≡ true → (not a || b) ≡ true → b ≡ true
 implied true b e h = h
 implied false b e h = cc
 
--- the predicate may be p0
+-- The predicate may be p0.
 predicate_zero : (coding : Coding) (width qp : ℕ) → Takes coding width (v.Pr qp) → Takes coding width (v.Pr 0)
 predicate_zero c.Pr width qp h = omega (arith, h)
 predicate_zero c.NoPredicate width qp h = refl

@@ -44,7 +44,7 @@ use Rattle.asm_text.specs.ReadBack.{untargeted}
 use Rattle.asm_text.proofs.OperandsBack.{resting, is_kind, is_shaped, operand_back}
 use Rattle.asm_text.proofs.CompletersBack.{is_value, said_is, value_rests, says_values, says_opcode, says_value, says_own}
 
--- how many bits the code of an operand has, by its number
+-- How many bits the code of an operand has, by its number.
 abbrev pub width_at : List Operand → ℕ → ℕ
 width_at [] n = 0
 width_at (x ∷ xs) zero = operand_width x
@@ -60,12 +60,12 @@ taken_at os xs n h = absurd h
 abbrev pub AreTaken : List Operand → (ℕ → Value) → Type 0
 AreTaken os x = (x 0 ≡ v.Pr 0) × ((n : ℕ) → Takes (coding_at os (suc n)) (width_at os (suc n)) (x (suc n)))
 
--- the values that are read: number 0 is that of none
+-- The values that are read: number 0 is that of none.
 abbrev pub read_values : (ℕ → Value) → ℕ → Value
 read_values x zero = v.Absent
 read_values x (suc n) = resting (x (suc n))
 
--- values put at their numbers
+-- Values put at their numbers.
 abbrev pub puts : (ℕ → Value) → List ℕ → List Value → List Value
 puts y [] vs = vs
 puts y (n ∷ ns) vs = puts y ns (slice_set vs n (y n))
@@ -121,7 +121,7 @@ operands_put os [] o x vs h t = refl
 operands_put os (s ∷ ks) o x vs h t =
     rw ((one_back os s o x (left _ _ h) t).1) (operands_put os ks o x (slice_set vs s.1 (read_values x s.1)) (right _ _ h) t)
 
--- operands that the kinds of a form's print fit its items
+-- Operands that the kinds of a form's print fit its items.
 abbrev all_print : List (Kind × ℕ) → List Token → Bool
 all_print [] [] = true
 all_print (s ∷ ks) (x ∷ xs) = prints s.0 x && all_print ks xs
@@ -138,7 +138,7 @@ tokens_print : (os : List Operand) (ks : List (Kind × ℕ)) (o : Opcode) (x : �
 tokens_print os [] o x h t = refl
 tokens_print os (s ∷ ks) o x h t = and_from _ _ (one_back os s o x (left _ _ h) t).0 (tokens_print os ks o x (right _ _ h) t)
 
--- the opcode with the application register that is among the operands
+-- The opcode with the application register that is among the operands.
 unfoldable pub moved : List (Kind × ℕ) → Opcode → Opcode → Opcode
 moved [] o q = q
 moved (s ∷ ks) o q = moved ks o (cond (is_register_kind s.0) (moving (t.Ar (register_of o)) q) q)
@@ -165,7 +165,7 @@ suits_set os o (set, suc n) = says_values set o (coding_at os (suc n)) (width_at
 abbrev completers_with : List (CompleterSet × ℕ) → Opcode → (ℕ → Value) → List Completer
 completers_with ss o x = map (λ s. completer_of s.0 o (x s.1)) ss
 
--- what a completer is, of either
+-- What a completer is, of either.
 record IsGood (s : CompleterSet × ℕ) (o : Opcode) (x : ℕ → Value) : Type 0 where
   chosen : Contains (members s.0) (completer_of s.0 o (x s.1))
   there : is_missing (completer_of s.0 o (x s.1)).says ≡ false
@@ -196,7 +196,7 @@ pub none_missing : (os : List Operand) (ss : List (CompleterSet × ℕ)) (o : Op
 none_missing os [] o x h t = refl
 none_missing os (s ∷ ss) o x h t = rw ((good os s o x (left _ _ h) t).there) (none_missing os ss o x (right _ _ h) t)
 
--- the opcode with what is said of it
+-- The opcode with what is said of it.
 unfoldable pub said_by : List (CompleterSet × ℕ) → Opcode → Opcode → Option Opcode
 said_by [] o q = Some q
 said_by ((set, zero) ∷ ss) o q = option_and_then (said_by ss o) (completed (completer_of set o (v.Pr 0)).says q)
@@ -215,7 +215,7 @@ said_is_by os ((set, suc n) ∷ ss) o x q h t =
     let g = says_value set o (coding_at os (suc n)) (width_at os (suc n)) (x (suc n)) (left _ _ h) (t.1 n) in
     rw (g.leaves q) (said_is_by os ss o x q (right _ _ h) t)
 
--- the values of the form's own
+-- The values of the form's own.
 abbrev pub suits_fixed : Said × ℕ → Bool
 suits_fixed s = is_value s.0 && not (s.1 == 0)
 
@@ -227,7 +227,7 @@ fixed_put : (fs : List (Said × ℕ)) (o : Opcode) (x : ℕ → Value) (vs : Lis
 fixed_put [] o x vs h e = refl
 fixed_put (s ∷ fs) o x vs h e = rw (fixed_one s o x (left _ _ h) (left _ _ e)) (fixed_put fs o x (slice_set vs s.1 (read_values x s.1)) (right _ _ h) (right _ _ e))
 
--- each number is that of a value, and each operand but the predicate has its value named
+-- Each number is that of a value, and each operand but the predicate has its value named.
 abbrev pub are_numbers : List ℕ → Bool
 are_numbers ns = list_all (λ n. nat_lt n 7) ns
 
@@ -285,7 +285,7 @@ none_at (suc (suc (suc (suc (suc zero))))) = refl
 none_at (suc (suc (suc (suc (suc (suc zero)))))) = refl
 none_at (suc (suc (suc (suc (suc (suc (suc n))))))) = refl
 
--- what the row reads at a number is what was printed of it
+-- What the row reads at a number is what was printed of it.
 three : (y : ℕ → Value) (fs ks ss : List ℕ) (m : ℕ) (absent : Bool) → are_numbers fs ≡ true → are_numbers ks ≡ true → are_numbers ss ≡ true
     → (list_any (λ n. n == m) fs || (list_any (λ n. n == m) ks || (list_any (λ n. n == m) ss || absent))) ≡ true → (absent ≡ true → y m ≡ v.Absent)
     → at (puts y ss (puts y ks (puts y fs no_values))) m ≡ y m
@@ -324,7 +324,7 @@ value_at os o r x m a t e n =
     ∙ three (read_values x) (map (λ s. s.1) r.fixed) (map (λ s. s.1) (form_operands r.items)) (map (λ s. s.1) r.sets) (suc m) (is_absent (coding_at os (suc m))) a.fixed_numbers a.operand_numbers a.set_numbers n
     (λ z. absent_value x m (absent_is (coding_at os (suc m)) (width_at os (suc m)) (x (suc m)) z (t.1 m)))
 
--- an operation is the same with the same six values
+-- An operation is the same with the same six values.
 same_op : (o : Opcode) (x y : ℕ → Value) → x 1 ≡ y 1 → x 2 ≡ y 2 → x 3 ≡ y 3 → x 4 ≡ y 4 → x 5 ≡ y 5 → x 6 ≡ y 6 → op_with o x ≡ op_with o y
 same_op o.Mf x y a b d e f g = refl
 same_op o x y a b d e f g = cc
@@ -337,7 +337,7 @@ rests (op.Store size kind hint r3 r2 update.None) = refl
 rests (op.Store size kind hint r3 r2 u) = refl
 rests x = refl
 
--- the opcode that the row reads
+-- The opcode that the row reads.
 unfoldable pub begun : FormRow → Opcode → Option Opcode
 begun r o = option_and_then (λ q. said_by r.sets o (moved (form_operands r.items) o q)) r.opcode
 

@@ -22,14 +22,14 @@ use Rattle.asm_canonical.proofs.InRange.{IsTokenInRange}
 use Rattle.asm_canonical.proofs.Written.{IsPrinted}
 use Rattle.asm_text.proofs.OperandTexts.{is_lexemelike, are_apart, label_token}
 
--- a token for each item
+-- A token for each item.
 pub as_many : (is : List FormItem) (xs : List Token) → fits is xs ≡ true → length is ≡ length (filled is xs)
 as_many [] xs h = refl
 as_many (Is fixed ∷ is) xs h = rw (as_many is xs h) refl
 as_many (Takes kind n ∷ is) [] h = cc
 as_many (Takes kind n ∷ is) (x ∷ xs) h = rw (as_many is xs (right (prints kind x) _ h)) refl
 
--- no two words next to one another
+-- No two words next to one another.
 abbrev pub is_run : FormItem → Bool
 is_run (Is fixed) = is_lexemelike (fixed_token fixed)
 is_run (Takes kind n) = true
@@ -65,7 +65,7 @@ apart (Takes kind n ∷ Takes other to ∷ is) (x ∷ xs) h e = cc
 pub row_apart : (f : Form) (xs : List Token) → fits (row_of f).items xs ≡ true → are_apart (filled (row_of f).items xs) ≡ true
 row_apart f xs h = apart (row_of f).items xs h (of_row (λ r. items_apart r.items) f rows_apart)
 
--- the token at the position of the label is a name, where there is a label
+-- The token at the position of the label is a name, where there is a label.
 label_printed : (x : Token) → prints k.Label x ≡ true → x ≡ t.Name
 label_printed t.Name h = refl
 label_printed x h = cc
@@ -84,7 +84,7 @@ name_where (Some disp) = refl
 pub label_token_of : (f : Form) (xs : List Token) (d : Option ℤ) → fits (row_of f).items xs ≡ true → list_any is_label_item (row_of f).items ≡ is_some d → label_token (row_of f).items (filled (row_of f).items xs) ≡ option_map (λ disp. t.Name) d
 label_token_of f xs d h e = label_at (row_of f).items xs h ∙ ap (λ b. cond b (Some t.Name) None) e ∙ name_where d
 
--- fixed tokens can be printed
+-- fixed tokens can be printed.
 fixed_printed : (fixed : Fixed) → IsPrinted (fixed_token fixed)
 fixed_printed m.Equals = tt
 fixed_printed m.R0 = lit< tt

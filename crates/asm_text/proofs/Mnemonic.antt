@@ -22,12 +22,12 @@ use Rattle.asm_printing.specs.SlotTexts.{mnemonic_text}
 abbrev pub name_of_op : Op → List ℕ
 name_of_op x = mnemonic_text (form_of x) (completers_of x)
 
--- the first byte is one of names and no digit
+-- The first byte is one of names and no digit.
 abbrev pub begins_name : List ℕ → Bool
 begins_name [] = false
 begins_name (c ∷ cs) = is_name_byte c && not (is_digit_byte c)
 
--- the bytes of each word are those of a name
+-- The bytes of each word are those of a name.
 stems_plain : list_all (λ r. begins_name r.stem && list_all is_name_byte r.stem) rows ≡ true
 stems_plain = refl
 
@@ -54,14 +54,14 @@ completers_bytes : (cs : List Completer) → list_all is_name_byte (flat_map tex
 completers_bytes [] = refl
 completers_bytes (c ∷ cs) = names_both (text_of c) (flat_map text_of cs) (completer_bytes c.suffix) (completers_bytes cs)
 
--- the bytes of a mnemonic are those of a name
+-- The bytes of a mnemonic are those of a name.
 pub mnemonic_bytes : (f : Form) (cs : List Completer) → list_all is_name_byte (mnemonic_text f cs) ≡ true
 mnemonic_bytes f cs = names_both (row_of f).stem (flat_map text_of cs) (lexeme_bytes f) (completers_bytes cs)
 
 pub mnemonic_begins : (f : Form) (cs : List Completer) → begins_name (mnemonic_text f cs) ≡ true
 mnemonic_begins f cs = begins_both (row_of f).stem (flat_map text_of cs) (stem_begins f)
 
--- a name before an end is one word
+-- A name before an end is one word.
 pub name_cut : (n cs : List ℕ) → begins_name n ≡ true → list_all is_name_byte n ≡ true → is_end cs ≡ true → lexed 0 (n ++ cs) ≡ (kind.Name, n) ∷ lexed 0 cs
 name_cut [] cs b h e = cc
 name_cut (c ∷ n) cs b h e = name_lexed c n cs (left _ _ b) (not-true _ (right (is_name_byte c) _ b)) (right (is_name_byte c) _ h) e

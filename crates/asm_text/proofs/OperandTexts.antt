@@ -26,7 +26,7 @@ use Rattle.asm_reading.specs.Lines.{KindAndText, tokens, name_of, label_name}
 use Rattle.asm_canonical.proofs.Written.{IsPrinted}
 use Rattle.asm_printing.specs.SlotTexts.{is_hex, label_text, token_text, operands_text}
 
--- fixed tokens and operands in turn, as they are printed
+-- fixed tokens and operands in turn, as they are printed.
 abbrev pub item_hex : FormItem → Bool
 item_hex (Is fixed) = false
 item_hex (Takes kind n) = is_hex kind
@@ -42,7 +42,7 @@ filled_text target (Is fixed ∷ is) xs = ap (λ cs. token_text target false (fi
 filled_text target (Takes kind n ∷ is) [] = refl
 filled_text target (Takes kind n ∷ is) (x ∷ xs) = ap (λ cs. token_text target (is_hex kind) x ++ cs) (filled_text target is xs)
 
--- the kind of the word that an operand is printed as
+-- The kind of the word that an operand is printed as.
 abbrev pub lexeme_kind_of : Token → LexemeKind
 lexeme_kind_of (t.Gr n) = kind.Name
 lexeme_kind_of (t.Pr n) = kind.Name
@@ -55,7 +55,7 @@ lexeme_kind_of t.Name = kind.Name
 lexeme_kind_of (t.Number s m) = kind.Number
 lexeme_kind_of _ = kind.Mark
 
--- a name or a number, which runs on where another one follows
+-- A name or a number, which runs on where another one follows.
 abbrev pub is_lexemelike : Token → Bool
 is_lexemelike (t.Gr n) = true
 is_lexemelike (t.Pr n) = true
@@ -68,25 +68,25 @@ is_lexemelike t.Name = true
 is_lexemelike (t.Number s m) = true
 is_lexemelike _ = false
 
--- no two neighbours would run into one another
+-- No two neighbours would run into one another.
 abbrev pub are_apart : List Token → Bool
 are_apart [] = true
 are_apart (x ∷ []) = true
 are_apart (x ∷ y ∷ xs) = not (is_lexemelike x && is_lexemelike y) && are_apart (y ∷ xs)
 
--- the words that operands are printed as
+-- The words that operands are printed as.
 abbrev pub lexemes_of : ℕ → List FormItem → List Token → List KindAndText
 lexemes_of target [] xs = []
 lexemes_of target (i ∷ is) [] = []
 lexemes_of target (i ∷ is) (x ∷ xs) = (lexeme_kind_of x, token_text target (item_hex i) x) ∷ lexemes_of target is xs
 
--- the operand at the position of the first label
+-- The operand at the position of the first label.
 abbrev pub label_token : List FormItem → List Token → Option Token
 label_token [] xs = None
 label_token (i ∷ is) [] = None
 label_token (i ∷ is) (x ∷ xs) = if is_label_item i then Some x else label_token is xs
 
--- the label of a bundle is a name that no line is too short for
+-- The label of a bundle is a name that no line is too short for.
 pub label_is_short : (n : ℕ) → n < 2 ^ 34 → length (label_text n) ≤ NAME_LIMIT
 label_is_short n l = let s = length-decimal-le 11 n (lit< tt) (omega arith) (omega arith) in omega (arith, s)
 
@@ -99,7 +99,7 @@ label_is_name n l =
     let e : leb (length (label_text n)) NAME_LIMIT ≡ true = le-leb _ _ (label_is_short n l) in
     rw (b, e) refl
 
--- a letter and a number are one word
+-- A letter and a number are one word.
 numbered : (c n : ℕ) (cs : List ℕ) → is_name_byte c ≡ true → is_digit_byte c ≡ false → n < 2 ^ 64 → is_end cs ≡ true → lexed 0 (c ∷ decimal n ++ cs) ≡ (kind.Name, c ∷ decimal n) ∷ lexed 0 cs
 numbered c n cs a d l e = name_lexed c (decimal n) cs a d (decimal_is_name_bytes n l) e
 
@@ -171,7 +171,7 @@ operands_plain target [] xs l p = refl
 operands_plain target (i ∷ is) [] l p = refl
 operands_plain target (i ∷ is) (x ∷ xs) l p = both_plain (token_text target (item_hex i) x) (tokens_text target is xs) (one_plain target (item_hex i) x l p.0) (operands_plain target is xs l p.1)
 
--- a fixed token ends what stands before it
+-- A fixed token ends what stands before it.
 fixed_ends : (target : ℕ) (hex : Bool) (x : Token) (cs : List ℕ) → IsPrinted x → is_lexemelike x ≡ false → is_end (token_text target hex x ++ cs) ≡ true
 fixed_ends target hex t.Equals cs p w = refl
 fixed_ends target hex t.Comma cs p w = refl
@@ -220,7 +220,7 @@ operands_lexed target (i ∷ is) (x ∷ xs) cs l n p a e =
     (one_lexed target (item_hex i) x (tokens_text target is xs ++ cs) l p.0 (λ w. end_after target is x xs cs m p.1 a w e)
     ∙ ap (λ ws. (lexeme_kind_of x, token_text target (item_hex i) x) ∷ ws) (operands_lexed target is xs cs l m p.1 (apart_tail x xs a) e))
 
--- what these words may be read as
+-- What these words may be read as.
 pub lexemes_read : (target : ℕ) (is : List FormItem) (xs : List Token) (ws : List KindAndText) → target < 2 ^ 34 → length is ≡ length xs → AllByRecursion IsPrinted xs → tokens (lexemes_of target is xs ++ ws) ≡ xs ++ tokens ws
 lexemes_read target [] [] ws l n p = refl
 lexemes_read target [] (x ∷ xs) ws l n p = cc

@@ -20,7 +20,7 @@ use Rattle.asm_instructions.specs.Operands.{signed, long, short, wrapped, even, 
 use Rattle.asm_canonical.specs.Canonical.{negative, number, value_token, operand_of}
 use Rattle.asm_canonical.proofs.FieldRanges.{magnitude_within, is_below, is_short, has_imm8, has_imm9, has_imm14, has_imm22, has_tag, has_rotating_mask, has_increment, increment_within}
 
--- a value that the coding takes is of its kind
+-- A value that the coding takes is of its kind.
 pub is_shaped : (coding : Coding) (width : ℕ) (value : Value) → Takes coding width value → is_of_kind coding value ≡ true
 is_shaped c.Absent width v.Absent t = refl
 is_shaped c.NoPredicate width (v.Pr n) t = refl
@@ -46,12 +46,12 @@ is_shaped c.Short width (v.Short z) t = refl
 is_shaped c.Displacement width (v.Displacement z) t = refl
 is_shaped coding width value t = absurd t
 
--- a value as it is read: a target is put in later
+-- A value as it is read: a target is put in later.
 abbrev pub resting : Value → Value
 resting (v.Displacement z) = v.Displacement (pos 0)
 resting value = value
 
--- the kind prints the value's token, and reads it as the value
+-- The kind prints the value's token, and reads it as the value.
 pub record IsBack (kind : Kind) (token : Token) (value : Value) : Type 0 where
   pub printed : prints kind token ≡ true
   pub read : operand_value kind token ≡ resting value
@@ -75,19 +75,19 @@ is_field f.RotatingMask c.RotatingMask width = width == 28
 is_field f.Increment c.Increment width = true
 is_field _ _ width = false
 
--- a number is its sign and magnitude
+-- A number is its sign and magnitude.
 signed_back : (z : ℤ) → signed (negative z) (unsigned_abs z) ≡ z
 signed_back (pos n) = refl
 signed_back (negsuc n) = refl
 
--- a signed number of so few bits comes back, of 64 bits and of 16
+-- A signed number of so few bits comes back, of 64 bits and of 16.
 long_back : (width : ℕ) (z : ℤ) → FitsSigned width z → 2 ^ (width - 1) < 2 ^ 63 → long (negative z) (unsigned_abs z) ≡ z
 long_back width z h l = rw (is_short width (2 ^ 63) z h l, signed_back z) refl
 
 short_back : (z : ℤ) (most : ℕ) → unsigned_abs z ≤ most → most < 2 ^ 15 → short (negative z) (unsigned_abs z) ≡ z
 short_back z most h l = rw (is_below (unsigned_abs z) most (2 ^ 15) h l, signed_back z) refl
 
--- a mask without its lowest bit comes back
+-- A mask without its lowest bit comes back.
 mask_back : (m : ℕ) → m < 131072 → m % 2 ≡ 0 → even (wrapped 131072 false m) ≡ m
 mask_back m l e =
     let s : m % 131072 ≡ m = mod-eq_of_lt l in
@@ -104,7 +104,7 @@ short_is field most z h l room e = record { printed = room; read = rw (e, short_
 small_is : (n : ℕ) → n < 256 → ltb n 256 ≡ true
 small_is n h = le-leb (suc n) 256 h
 
--- a number of a field
+-- A number of a field.
 number_back : (field : NumberField) (coding : Coding) (width : ℕ) (value : Value) → is_field field coding width ≡ true → is_of_kind coding value ≡ true → Takes coding width value → IsBack (k.Number field) (value_token value) value
 number_back f.Imm8 c.Signed width (v.Signed z) h is t = let e = eqb-true width 8 h in let s : FitsSigned 8 z = rw e at t in long_is f.Imm8 8 z s (lit< tt) (has_imm8 z s) refl
 number_back f.Imm14 c.Signed width (v.Signed z) h is t = let e = eqb-true width 14 h in let s : FitsSigned 14 z = rw e at t in long_is f.Imm14 14 z s (lit< tt) (has_imm14 z s) refl

@@ -17,7 +17,7 @@ movl_back r1 imm l =
     let s : imm % 18446744073709551616 ≡ imm = mod-eq_of_lt l in
     record { choice = refl; fits = rw (le-leb imm 18446744073709551615 (omega (arith, l))) refl; label = refl; slot = refl; bare = refl; op = ap (λ n. Some (op.Movl r1 n)) s }
 
--- I19, M37, B9, F15 and X1
+-- I19, M37, B9, F15 and X1.
 pub break_back : (u : ExecutionUnit) (imm : ℕ) → IsNumberOf u imm → ReadsBack (op.Break u imm)
 break_back unit.M imm h = record { choice = refl; fits = rw (le-leb imm 2097151 (omega (arith, h))) refl; label = refl; slot = refl; bare = refl; op = refl }
 break_back unit.I imm h = record { choice = refl; fits = rw (le-leb imm 2097151 (omega (arith, h))) refl; label = refl; slot = refl; bare = refl; op = refl }
@@ -26,7 +26,7 @@ break_back unit.B imm h = record { choice = refl; fits = rw (le-leb imm 2097151 
 break_back unit.X imm h = record { choice = refl; fits = rw (le-leb imm 4611686018427387903 (omega (arith, h))) refl; label = refl; slot = refl; bare = refl; op = refl }
 break_back unit.L imm h = absurd h
 
--- I18, M48, B9, F16 and X5
+-- I18, M48, B9, F16 and X5.
 pub nop_back : (u : ExecutionUnit) (imm : ℕ) → IsNumberOf u imm → ReadsBack (op.Nop u imm)
 nop_back unit.M imm h = record { choice = refl; fits = rw (le-leb imm 2097151 (omega (arith, h))) refl; label = refl; slot = refl; bare = refl; op = refl }
 nop_back unit.I imm h = record { choice = refl; fits = rw (le-leb imm 2097151 (omega (arith, h))) refl; label = refl; slot = refl; bare = refl; op = refl }

@@ -63,7 +63,7 @@ opcodes_f : OpcodesBack rows_f
 unfolding rows_f listed begun said_by moved
 opcodes_f = refl
 
--- the rows of long instructions are read back by themselves
+-- The rows of long instructions are read back by themselves.
 all_apart : list_all (λ r. is_apart r.opcode) rows_x ≡ true
 unfolding rows_x
 all_apart = refl

@@ -14,7 +14,7 @@ use Rattle.asm_reading.specs.Lines.{KindAndText, value_of, reading_of, relation_
 use Rattle.asm_reading.proofs.TwoPredicates.{two_read}
 use Rattle.asm_text.proofs.SlotLines.{read_plain}
 
--- the text of the line
+-- The text of the line.
 abbrev pub relation_text : ℕ → ℕ → List ℕ
 relation_text p q = codes ".pred.rel \"mutex\",p" ++ decimal p ++ codes ",p" ++ decimal q
 

@@ -31,7 +31,7 @@ use Rattle.asm_printing.specs.SlotTexts.{is_hex, token_text, operands_text, or_z
 use Rattle.asm_text.proofs.Mnemonic.{name_of_op}
 use Rattle.asm_canonical.proofs.Written.{form_of, completers_of, operands_of, items_of, tokens_of, IsPrinted}
 
--- the most bytes of the text of a token
+-- The most bytes of the text of a token.
 abbrev token_room : Token → ℕ
 token_room (t.Gr n) = 4
 token_room (t.Pr n) = 3
@@ -117,12 +117,12 @@ operands_are_short target (Takes kind n ∷ is) (x ∷ xs) l h p =
     let both = length-append (token_text target (is_hex kind) x) (operands_text target is xs) in
     omega (arith, one, same, more, both)
 
--- the space before operands is one byte
+-- The space before operands is one byte.
 spaced_is_short : (cs : List ℕ) → length (spaced cs) ≤ suc (length cs)
 spaced_is_short [] = omega arith
 spaced_is_short (c ∷ cs) = omega arith
 
--- a stop has at most 3 bytes
+-- A stop has at most 3 bytes.
 stop_is_short : (stop : Bool) → length (stop_text stop) ≤ 3
 stop_is_short true = omega arith
 stop_is_short false = omega arith
@@ -135,7 +135,7 @@ guard_is_short false qp h =
     let both = length-append (decimal qp) (codes ") ") in
     omega (arith, d, both)
 
--- the parts of a line, by their lengths
+-- The parts of a line, by their lengths.
 parts_are_short : (pr m d s : List ℕ) → length pr ≤ 6 → length m + length d ≤ 108 → length s ≤ 3 → length (codes "  " ++ pr ++ m ++ d ++ s) ≤ SLOT_LINE_LIMIT
 parts_are_short pr m d s hp hd hs =
     let a = length-append (pr ++ m ++ d) s in
@@ -143,7 +143,7 @@ parts_are_short pr m d s hp hd hs =
     let e = length-append pr m in
     omega (arith, hp, hd, hs, a, b, e)
 
--- 0 counts where there is no target
+-- 0 counts where there is no target.
 pub small_target : (target : Option ℕ) → IfSome target (λ n. n < 2 ^ 34) → or_zero target < 2 ^ 34
 small_target None h = omega arith
 small_target (Some n) h = h

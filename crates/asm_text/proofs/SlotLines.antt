@@ -49,7 +49,7 @@ use Rattle.asm_text.proofs.ItemFacts.{as_many, row_apart, label_token_of}
 use Rattle.asm_text.proofs.OperandTexts.{are_apart, label_token, tokens_text, filled_text, operands_plain, operands_back, label_found, label_missing}
 use Rattle.asm_text.proofs.WayBack.{ReadsBack}
 
--- the stop at the end
+-- The stop at the end.
 abbrev stops : Bool → List Token
 stops stop = cond stop (t.Stop ∷ []) []
 
@@ -110,14 +110,14 @@ no_label : (w : KindAndText) (ws : List KindAndText) → begins_colon (tokens ws
 no_label w [] h = refl
 no_label w (x ∷ ws) h = neither (is_name_lexeme w) (is_colon (token_of x.0 x.1)) _ _ h
 
--- the words before the leading one
+-- The words before the leading one.
 lead_first : (m : List ℕ) (ws : List KindAndText) → lead_at (tokens ((kind.Name, m) ∷ ws)) ≡ Some 0
 lead_first m ws = cond-false (is_open (name_token m)) _ (Some 0) (name_is_not_open m)
 
 lead_fourth : (x : Token) (xs : List Token) → is_close x ≡ false → lead_at (t.OpenParenthesis ∷ x ∷ t.CloseParenthesis ∷ xs) ≡ Some 3
 lead_fourth x xs h = rw h refl
 
--- the instruction of a slot line and its target
+-- The instruction of a slot line and its target.
 abbrev draft : ℕ → Op → Option (List ℕ) → Bool → Draft
 draft qp x name bare = record { insn = record { qp = qp; op = x }; target = name; bare = bare }
 
@@ -135,7 +135,7 @@ joined : (q : Result ℕ LineFault) (r : Result Form LineFault) (build : Form �
     → q ≡ Ok qp → r ≡ Ok f → build f ≡ Some x → drafted f qp x ≡ d → e ≡ stop → slot_by q r build drafted e ≡ Ok (line.Slot d stop)
 joined q r build drafted e qp f x d stop eq er eb ed ee = rw (eq, er, eb, ed, ee) refl
 
--- the completers after a word are those of the form
+-- The completers after a word are those of the form.
 own_completers : (f : Form) (cs : List Completer) → completers_in (row_of f).sets (flat_map text_of cs) ≡ Some cs → completers_or_none f (mnemonic_text f cs) ≡ cs
 own_completers f cs h =
     ap (λ text. unwrap_or (completers_in (row_of f).sets text) []) (drop-append_seam (row_of f).stem (flat_map text_of cs)) ∙ ap (λ o. unwrap_or o []) h
@@ -214,7 +214,7 @@ predicated true x qp rest name stop z back printed small e seen n =
     plain_value x rest name stop back printed e seen n ∙ ap (λ q. Ok (line.Slot (draft q (untargeted x) name false) stop)) (sym (eqb-true qp 0 z))
 predicated false x qp rest name stop z back printed small e seen n = guarded_value x qp rest name stop back printed small e seen n
 
--- what stands after the mnemonic
+-- What stands after the mnemonic.
 tail_ends : (text : List ℕ) (stop : Bool) → is_end (spaced text ++ stop_text stop) ≡ true
 tail_ends [] true = refl
 tail_ends [] false = refl
@@ -232,13 +232,13 @@ spaced_lexed : (text cs : List ℕ) → lexed 0 (spaced text ++ cs) ≡ lexed 0 
 spaced_lexed [] cs = refl
 spaced_lexed (c ∷ text) cs = refl
 
--- the name of the line is the label of the target, where there is one
+-- The name of the line is the label of the target, where there is one.
 label_back : (is : List FormItem) (xs : List Token) (cs : List ℕ) (target : Option ℕ) → IfSome target (λ n. n < 2 ^ 34) → length is ≡ length xs → AllByRecursion IsPrinted xs → are_apart xs ≡ true → is_end cs ≡ true
     → label_token is xs ≡ option_map (λ n. t.Name) target → label_name is (lexed 0 (tokens_text (or_zero target) is xs ++ cs)) ≡ option_map label_text target
 label_back is xs cs None l n p a e h = label_missing 0 is xs cs (small_target None tt) n p a e h
 label_back is xs cs (Some m) l n p a e h = label_found m is xs cs l n p a e h
 
--- every byte of the line is plain
+-- Every byte of the line is plain.
 spaced_plain : (cs : List ℕ) → has_only_plain cs ≡ true → has_only_plain (spaced cs) ≡ true
 spaced_plain [] h = refl
 spaced_plain (c ∷ cs) h = h
@@ -255,14 +255,14 @@ parts_plain : (pr m text : List ℕ) (stop : Bool) → has_only_plain pr ≡ tru
 parts_plain pr m text stop hp hm ht =
     both_plain (pr ++ m ++ spaced text) (stop_text stop) (both_plain (pr ++ m) (spaced text) (both_plain pr m hp hm) (spaced_plain text ht)) (stop_plain stop)
 
--- the two spaces are no words
+-- The two spaces are no words.
 parts_lexed : (pr m d s : List ℕ) → lexed 0 (codes "  " ++ pr ++ m ++ d ++ s) ≡ lexed 0 (pr ++ (m ++ (d ++ s)))
 parts_lexed pr m d s = ap (lexed 0) (append_assoc (pr ++ m) d s ∙ append_assoc pr m (d ++ s))
 
 pub read_plain : (bytes : List ℕ) → has_only_plain bytes ≡ true → reading_of bytes ≡ value_of (lexed 0 bytes)
 read_plain bytes h = cond-true (has_only_plain bytes) _ _ h ∙ ap value_of (lexemes_lexed bytes)
 
--- the operands of a line by the number of their target
+-- The operands of a line by the number of their target.
 line_back : (x : Op) (qp : ℕ) (target : Option ℕ) (stop : Bool) → ReadsBack x → AllByRecursion IsPrinted (tokens_of x) → qp < 64 → are_apart (tokens_of x) ≡ true
     → length (items_of x) ≡ length (tokens_of x) → IfSome target (λ n. n < 2 ^ 34) → label_token (items_of x) (tokens_of x) ≡ option_map (λ n. t.Name) target
     → reading_of (codes "  " ++ predicate_text qp ++ name_of_op x ++ spaced (tokens_text (or_zero target) (items_of x) (tokens_of x)) ++ stop_text stop)

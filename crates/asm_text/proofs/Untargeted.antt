@@ -29,7 +29,7 @@ use Rattle.formats_b.proofs.WordsX.{row_of_x, of_row_x}
 use Rattle.ia_program.specs.Listed.{IsListed}
 use Rattle.asm_text.specs.ReadBack.{untargeted}
 
--- the operation with this displacement
+-- The operation with this displacement.
 abbrev pub aimed : ℤ → Op → Op
 aimed z (op.ChkS unit r2 disp) = op.ChkS unit r2 z
 aimed z (op.ChkA clear r1 disp) = op.ChkA clear r1 z

@@ -5,7 +5,7 @@ use Rattle.std.proofs.lemmas.Nat.{mod-mul-add, div-mul-add, mod_below, div-add-m
 use Rattle.std.proofs.Math.Nat.{div-div-eq-div-mul, pow-suc, one-le-pow}
 use Rattle.bundle_bits.specs.RawBundle.{AreBytes}
 
--- bytes as a number, by recursion
+-- Bytes as a number, by recursion.
 abbrev value : List ℕ → ℕ
 value [] = 0
 value (b ∷ bs) = value bs * 256 + b
@@ -28,7 +28,7 @@ bytes-value (b ∷ bs) i n small is =
     let rest = bytes-value bs (suc i) n (λ k. small (suc k)) (next i n b (value bs) (small 0) is) in
     λ t. here t ∷ rest t
 
--- the bytes of a number that bytes have are these bytes
+-- The bytes of a number that bytes have are these bytes.
 pub back : (bs : List ℕ) (n : ℕ) → length bs ≡ 16 → ((k : ℕ) → get_or bs k 0 < 256) → from_le_bytes w128 bs ≡ n → to_le_bytes w128 n ≡ bs
 back bs n count small is =
     ap (λ k. bytes_low_first 0 k n) (sym count) ∙ bytes-value bs 0 n small (let e : n / 256 ^ 0 ≡ value bs = omega (arith, from-value bs count) in e)
@@ -37,7 +37,7 @@ byte-is : (i n : ℕ) → byte_at i n ≡ n / 256 ^ i % 256
 byte-is zero n = omega arith
 byte-is (suc i) n = refl
 
--- one digit more
+-- One digit more.
 longer : (x m : ℕ) → 0 < m → (x / 256 % m) * 256 + x % 256 ≡ x % (m * 256)
 longer x m h =
     let q : ℕ = x / 256 in
@@ -53,16 +53,16 @@ value-bytes (suc k) i n =
     let shift : n / 256 ^ suc i ≡ n / 256 ^ i / 256 = ap (λ q. n / q) (pow-suc 256 i) ∙ sym (div-div-eq-div-mul n (256 ^ i) 256) in
     ap (λ v. v * 256 + byte_at i n) (value-bytes k (suc i) n ∙ ap (λ q. q % 256 ^ k) shift) ∙ ap (λ b. n / 256 ^ i / 256 % 256 ^ k * 256 + b) (byte-is i n) ∙ longer (n / 256 ^ i) (256 ^ k) p ∙ ap (λ m. n / 256 ^ i % m) (sym (pow-suc 256 k))
 
--- the number of a number's bytes
+-- The number of a number's bytes.
 pub forth : (n : ℕ) → n < 2 ^ 128 → from_le_bytes w128 (to_le_bytes w128 n) ≡ n
 forth n fits = from-value (to_le_bytes w128 n) refl ∙ value-bytes 16 0 n ∙ (let e : n / 256 ^ 0 % 256 ^ 16 ≡ n = omega arith in e)
 
--- bytes of one number are the same
+-- Bytes of one number are the same.
 pub one-bytes : (x y : List ℕ) → AreBytes x → AreBytes y → from_le_bytes w128 x ≡ from_le_bytes w128 y → x ≡ y
 one-bytes x y first second is =
     sym (back x (from_le_bytes w128 y) first.count first.small is) ∙ back y (from_le_bytes w128 y) second.count second.small refl
 
--- the number of bytes is below 256 to the power of their count
+-- The number of bytes is below 256 to the power of their count.
 value-below : (bs : List ℕ) → ((k : ℕ) → get_or bs k 0 < 256) → value bs < 256 ^ length bs
 value-below [] small = omega arith
 value-below (b ∷ bs) small =
@@ -70,7 +70,7 @@ value-below (b ∷ bs) small =
     let here : b < 256 = small 0 in
     rw (pow-suc 256 (length bs)) (omega arith)
 
--- the number of sixteen bytes has 128 bits
+-- The number of sixteen bytes has 128 bits.
 pub number-fits : (bs : List ℕ) → AreBytes bs → from_le_bytes w128 bs < 2 ^ 128
 number-fits bs are =
     let below : value bs < 256 ^ 16 = subst (λ k. value bs < 256 ^ k) are.count (value-below bs are.small) in

@@ -3,7 +3,7 @@ use Rattle.std.proofs.Common.{◌≡◌, ℕ, ◌+◌, ◌*◌, ◌/◌, ◌%◌
 use Rattle.bundle_bits.specs.RawBundle.{bundle_number, HasWidths}
 use Rattle.bundle_bits.specs.declared.bundle.RawBundle.{RawBundle}
 
--- what the code computes of a number
+-- What the code computes of a number.
 abbrev pub parts_of : ℕ → RawBundle
 parts_of n = record { template = n % 32; slots = n / 32 % 2199023255552 ∷ n / 32 / 2199023255552 % 2199023255552 ∷ n / 32 / 2199023255552 / 2199023255552 ∷ [] }
 
@@ -16,16 +16,16 @@ same_parts t (a ∷ b ∷ c ∷ []) n parts is =
     λ i. record { template = d.0 i; slots = d.1 i ∷ d.2 i ∷ d.3 i ∷ [] }
 same_parts t slots n parts is = absurd (omega (arith, parts.count))
 
--- a bundle of this number has the parts that the code computes
+-- A bundle of this number has the parts that the code computes.
 pub only-parts : (raw : RawBundle) (n : ℕ) → HasWidths raw → bundle_number raw ≡ n → raw ≡ parts_of n
 only-parts raw n parts is = same_parts raw.template raw.slots n parts is
 
--- two bundles of one number are the same
+-- Two bundles of one number are the same.
 pub one-raw : (raw other : RawBundle) → HasWidths raw → HasWidths other → bundle_number raw ≡ bundle_number other → raw ≡ other
 one-raw raw other parts others is =
     only-parts raw (bundle_number other) parts is ∙ sym (only-parts other (bundle_number other) others refl)
 
--- the parts of a number of 128 bits are those of a bundle, and make the number
+-- The parts of a number of 128 bits are those of a bundle, and make the number.
 pub are-parts : (n : ℕ) → n < 2 ^ 128 → HasWidths (parts_of n)
 are-parts n fits =
     record { template = omega arith; count = refl; first = omega arith; second = omega arith; third = omega arith }

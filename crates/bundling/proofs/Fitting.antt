@@ -38,7 +38,7 @@ pub record IsBundling (s : Loose) (cs : List Chunk) : Type 0 where
   pub loose : IsLoose s
   pub are : AreChunksOf s cs
 
--- each instruction is in one of the bundles
+-- Each instruction is in one of the bundles.
 pub bundle_inside : (s : Loose) (cs : List Chunk) (n : ℕ) → IsBundling s cs → n < length s.items → bundle_of cs n < length cs
 bundle_inside s cs n h less =
     let one = in_chunk cs s.items n h.are.chunks less in
@@ -67,7 +67,7 @@ in_bundle_at s cs n h less =
           (omega (arith, inside, few)) (omega (arith, few)) (λ m within. bundle_inside s cs m h within);
     }
 
--- the number of an instruction of a bundle
+-- The number of an instruction of a bundle.
 part_at : {X : Type 0} (cs : List Chunk) (xs : List X) (k j : ℕ) (c : Chunk) (x : X) → slice_get cs k ≡ Some c → slice_get (part_of cs k c xs) j ≡ Some x → IsAt cs (held cs k + j) k j c
 part_at cs xs k j c x there at =
     let within = slice_get_within (part_of cs k c xs) j x at in
@@ -129,7 +129,7 @@ bundles_fit s cs h n = of (cases_lt n (length cs))
         let count = length-bundles cs (targeted (bundle_of cs) s) in
         subst (λ (o : Option Bundle). IfSome o IsBundle) (sym (slice_get_past (program_of s cs).bundles n (omega (arith, count, past)))) tt
 
--- what holds of each instruction and of each nop holds of what stands in a slot
+-- What holds of each instruction and of each nop holds of what stands in a slot.
 either : (P : Insn → Type 0) (first : Bool) (i j : Insn) → P i → P j → P (if first then i else j)
 either P true i j p q = p
 either P false i j p q = q
@@ -163,7 +163,7 @@ nop_inside : (count own : ℕ) (u : ExecutionUnit) → IfSome (displacement (nop
 nop_inside count own units.L = tt
 nop_inside count own u = tt
 
--- the target of each instruction of a bundle is below a count
+-- The target of each instruction of a bundle is below a count.
 part_inside : (s : Loose) (cs : List Chunk) (k j : ℕ) (c : Chunk) (i : Insn) → IsBundling s cs → slice_get cs k ≡ Some c
     → slice_get (part_of cs k c (targeted (bundle_of cs) s)) j ≡ Some i → IfSome (displacement i.op) (IsBundleAt (length cs) k)
 part_inside s cs k j c i h there at =

@@ -21,7 +21,7 @@ use Rattle.bundling.proofs.Targeting.{put, length-targeted, IsItemAt, item_at, w
 use Rattle.bundling.proofs.Spreading.{itself, bundles_of, there, rises, fillers}
 use Rattle.bundling.proofs.Entering.{entry_from, entry_of, knows_same}
 
--- an instruction that begins a bundle is the first there
+-- An instruction that begins a bundle is the first there.
 pub begins_head : AreLayouts → (s : Loose) (cs : List Chunk) → AreChunks cs s.items → (m : ℕ) → BreaksAt s.items m → IsHead (place_of cs) m
 begins_head laws s cs are m begins =
     let one = in_chunk cs s.items m are (breaks_inside s.items m begins) in
@@ -62,7 +62,7 @@ bundle_below laws s cs are n less =
     let bundle = bundle_there laws cs s.items n one.bundle one.offset one.chunk are one.at in
     omega (arith, length-bundles cs (targeted (bundle_of cs) s))
 
--- a taken edge of the one gives one of the other
+-- A taken edge of the one gives one of the other.
 targets : AreLayouts → (s : Loose) (cs : List Chunk) → IsLoose s → AreChunks cs s.items → (bundle n : ℕ) → n < length s.items → HasEdge (program_of s cs) (place_of cs n) Taken (first_of bundle)
     → (m : ℕ) × HasSequenceEdge (sequence_of s) (first_of n) Taken (first_of m) × (bundle_of cs m ≡ bundle) × IsHead (place_of cs) m
 targets laws s cs loose are bundle n less edge =

@@ -12,7 +12,7 @@ slice_get-drop zero xs j = ap (slice_get xs) (omega arith)
 slice_get-drop (suc h) [] j = refl
 slice_get-drop (suc h) (x ∷ xs) j = rw suc-add (slice_get-drop h xs j)
 
--- of n from one on
+-- Of n from one on.
 pub slice_get-part : {X : Type 0} (m h : ℕ) (xs : List X) (j : ℕ) → j < m → slice_get (take m (drop h xs)) j ≡ slice_get xs (h + j)
 slice_get-part m h xs j less = slice_get-take m (drop h xs) j less ∙ slice_get-drop h xs j
 
@@ -25,7 +25,7 @@ pub slice_get-append_right : {X : Type 0} (xs ys : List X) (j : ℕ) → slice_g
 slice_get-append_right [] ys j = ap (slice_get ys) (omega arith)
 slice_get-append_right (x ∷ xs) ys j = rw suc-add (slice_get-append_right xs ys j)
 
--- the element that there is
+-- The element that there is.
 pub element : {X : Type 0} (xs : List X) (j : ℕ) → j < length xs → (x : X) × (slice_get xs j ≡ Some x)
 element [] j less = absurd (omega arith)
 element (x ∷ xs) zero less = (x, refl)

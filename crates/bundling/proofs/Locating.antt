@@ -27,13 +27,13 @@ pub record AreLayouts : Type 0 where
   pub is_layout : LaidOutIsLayout
   pub holds : LaidOutHoldsInOrder
 
--- how many instructions the chunks before the k-th have
+-- How many instructions the chunks before the k-th have.
 abbrev pub held : List Chunk → ℕ → ℕ
 held [] k = 0
 held (c ∷ cs) zero = 0
 held (c ∷ cs) (suc k) = length c.wanted + held cs k
 
--- the instructions of the k-th chunk
+-- The instructions of the k-th chunk.
 abbrev pub part_of : {X : Type 0} → List Chunk → ℕ → Chunk → List X → List X
 part_of cs k c xs = take (length c.wanted) (drop (held cs k) xs)
 
@@ -49,7 +49,7 @@ pub record InChunk (cs : List Chunk) (n : ℕ) : Type 0 where
   pub chunk : Chunk
   pub at : IsAt cs n bundle offset chunk
 
--- the chunks before one that comes later have all of one's instructions
+-- The chunks before one that comes later have all of one's instructions.
 pub held-suc : (cs : List Chunk) (k : ℕ) (c : Chunk) → slice_get cs k ≡ Some c → held cs (suc k) ≡ held cs k + length c.wanted
 held-suc [] k c there = absurd (cc)
 held-suc (d ∷ []) zero c there = let same : d ≡ c = same_Some d c there in ap (λ (c : Chunk). length c.wanted + 0) same ∙ omega arith
@@ -120,7 +120,7 @@ put_at laws cs items k c are there =
     let count = counted laws c is.0.laid in
     record { chunk = is.0; laid = laid c is.0.laid; count = count.0; some = count.1; within = is.1 }
 
--- a number is below another, or that and some more
+-- A number is below another, or that and some more.
 below_or : (a b : ℕ) → (a < b) ⊎ ((m : ℕ) × (b + m ≡ a))
 below_or a zero = inr (a, omega arith)
 below_or zero (suc b) = inl (omega arith)
@@ -177,7 +177,7 @@ bundle_at (d ∷ cs) insns (suc k) c there =
     bundle_at cs (drop (length d.wanted) insns) k c there
     ∙ ap (λ xs. Some (filled (layout_of c).0 (layout_of c).1 (take (length c.wanted) xs))) (drop-drop (held cs k) (length d.wanted) insns)
 
--- a slot of a bundle
+-- A slot of a bundle.
 abbrev pub in_bundle : ℕ → ℕ → Place
 in_bundle k slot = record { bundle = k; slot = slot }
 
@@ -221,7 +221,7 @@ placed laws cs items n k j c are at =
           (ap (slice_get (places_of cs)) (sym at.number) ∙ place ∙ ap (λ (n : ℕ). Some (in_bundle n found.0)) (let zero_and : 0 + k ≡ k = omega arith in zero_and));
     }
 
--- there are as many places as instructions
+-- There are as many places as instructions.
 pub length-places : AreLayouts → (cs : List Chunk) (items : List Item) (first : ℕ) → AreChunks cs items → length (places_from first cs) ≡ length items
 length-places laws [] [] first are = refl
 length-places laws [] (item ∷ items) first are = absurd are
@@ -232,7 +232,7 @@ length-places laws (c ∷ cs) items first (is, are) =
     let room = fits c items is in
     omega (arith, length-append places (places_from (first + 1) cs), length-drop (length c.wanted) items)
 
--- whose bundle is that of its chunk
+-- Whose bundle is that of its chunk.
 pub bundle_there : AreLayouts → (cs : List Chunk) (items : List Item) (n k j : ℕ) (c : Chunk) → AreChunks cs items → IsAt cs n k j c → bundle_of cs n ≡ k
 bundle_there laws cs items n k j c are at = ap (λ (p : Place). p.bundle) (placed laws cs items n k j c are at).place
 
@@ -266,7 +266,7 @@ together_at (a ∷ b ∷ items) zero x y (whole, goes_on, h) at next =
     (subst (λ (y : Item). y.breaks ≡ false) second whole, subst (λ (x : Item). ¬ IsCall x.insn.op) first goes_on)
 together_at (a ∷ b ∷ items) (suc j) x y (whole, goes_on, h) at next = together_at (b ∷ items) j x y h at next
 
--- the one behind another in a bundle doesn't begin one, and the other is no call
+-- The one behind another in a bundle doesn't begin one, and the other is no call.
 pub together : AreLayouts → (cs : List Chunk) (items : List Item) (n k j : ℕ) (c : Chunk) (x y : Item) → AreChunks cs items → IsAt cs (suc n) k (suc j) c
     → slice_get items n ≡ Some x → slice_get items (suc n) ≡ Some y → (y.breaks ≡ false) × ¬ IsCall x.insn.op
 together laws cs items n k j c x y are at there next =
@@ -303,7 +303,7 @@ next_first cs items n k j c laws are at last more =
         let end : length cs ≡ suc k = omega arith in
         let same : held cs (length cs) ≡ held cs (suc k) = ap (held cs) end in absurd (omega arith)
 
--- the last instruction is the last of the last bundle
+-- The last instruction is the last of the last bundle.
 pub last_of_all : (cs : List Chunk) (items : List Item) (n k j : ℕ) (c : Chunk) → AreLayouts → AreChunks cs items → IsAt cs n k j c → suc n ≡ length items
     → (suc j ≡ length c.wanted) × (suc k ≡ length cs)
 last_of_all cs items n k j c laws are at last =
@@ -389,7 +389,7 @@ call_is_last cs items n k j c x laws are at there call = of (cases_lt (suc j) (l
     of (inl h) inside = let first = behind_call_first cs items n k (suc j) c x laws are (next_inside cs n k j c at h) there call in absurd (omega arith)
     of (inr h) inside = omega arith
 
--- the first instruction is the first of the first bundle
+-- The first instruction is the first of the first bundle.
 pub first_of_all : (cs : List Chunk) (k j : ℕ) (c : Chunk) → IsAt cs 0 k j c → AreLayouts → (items : List Item) → AreChunks cs items → (k ≡ 0) × (j ≡ 0)
 first_of_all cs zero j c at laws items are = (refl, (let number = at.number in omega arith))
 first_of_all [] (suc k) j c at laws items are = let there = at.there in absurd (cc)

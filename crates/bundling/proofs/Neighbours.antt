@@ -23,7 +23,7 @@ pub record AreStopLaws : Type 0 where
   pub layouts : AreLayouts
   pub stops : LaidOutHasStopsAsWanted
 
--- the bundle of the k-th chunk
+-- The bundle of the k-th chunk.
 abbrev pub filled_at : List Chunk → List Insn → ℕ → Chunk → Bundle
 filled_at cs insns k c = filled (layout_of c).0 (layout_of c).1 (part_of cs k c insns)
 

@@ -23,14 +23,14 @@ use Rattle.bundling.proofs.Spreading.{itself}
 use Rattle.bundling.proofs.Entering.{entry_of}
 use Rattle.bundling.proofs.Fitting.{IsBundling, bundle_inside, bundles_fit, targets_inside}
 
--- the first instruction is in the first bundle
+-- The first instruction is in the first bundle.
 first_bundle : (s : Loose) (cs : List Chunk) → IsBundling s cs → bundle_of cs 0 ≡ 0
 first_bundle s cs h =
     let one = in_chunk cs s.items 0 h.are.chunks h.loose.some in
     bundle_there h.laws cs s.items 0 one.bundle one.offset one.chunk h.are.chunks one.at
     ∙ (first_of_all cs one.bundle one.offset one.chunk one.at h.laws s.items h.are.chunks).0
 
--- one that begins a bundle is in a later bundle than those before it
+-- One that begins a bundle is in a later bundle than those before it.
 begins_head : (s : Loose) (cs : List Chunk) (n : ℕ) → IsBundling s cs → BreaksAt s.items n → IsHead (place_of cs) n
 begins_head s cs n h begins =
     let one = in_chunk cs s.items n h.are.chunks (breaks_inside s.items n begins) in
@@ -109,7 +109,7 @@ relations_rise s cs h n inside =
     subst (λ (r : Relation). IsDeclarable (program_of s cs).bundles (program_of s cs).entries r (relation_at (program_of s cs).relations n)) (sym before)
     (subst (λ (r : Relation). IsDeclarable (program_of s cs).bundles (program_of s cs).entries (relation_moved f (relation_before s.relations n)) r) (sym here) stays)
 
--- the counts are those of the text and of its chunks
+-- The counts are those of the text and of its chunks.
 in_range : (s : Loose) (cs : List Chunk) → IsBundling s cs
     → AreInRange (length (program_of s cs).bundles) (length (program_of s cs).entries) (length (program_of s cs).bytes) (length (program_of s cs).relations)
 in_range s cs h =

@@ -25,7 +25,7 @@ use Rattle.loose_text.specs.LooseTexts.{IsTargetOf}
 use Rattle.bundling.specs.Bundled.{put_in}
 use Rattle.bundling.proofs.Locating.{breaks_inside}
 
--- each class has a place
+-- Each class has a place.
 unit_for : SlotClass → ExecutionUnit
 unit_for A = units.M
 unit_for I = units.I
@@ -60,7 +60,7 @@ place_there B = refl
 place_there Loop = refl
 place_there X = refl
 
--- what fits a slot is listed
+-- What fits a slot is listed.
 listed_stays : PlaceIsFit → (i : Insn) (a : Address) (n : ℕ) → IsReachable a → n < reach → IsListed i → IfSome (addressed i.op a n) (λ y. IsListed (record { qp = i.qp; op = y }))
 listed_stays law i a n within here listed =
     let class = class_of i.op in
@@ -91,7 +91,7 @@ pub record IsPutIn (count own : ℕ) (x : Op) (i : Insn) : Type 0 where
   pub class : class_of i.op ≡ class_of x
   pub target : IfSome (displacement i.op) (IsBundleAt count own)
 
--- each instruction below a count is in one of n bundles
+-- Each instruction below a count is in one of n bundles.
 abbrev pub IsInto : (ℕ → ℕ) → ℕ → ℕ → Type 0
 IsInto f items count = (n : ℕ) → n < items → f n < count
 

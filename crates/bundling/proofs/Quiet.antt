@@ -51,7 +51,7 @@ record HasStop (b : Bundle) : Type 0 where
 last_is_place : (b : Bundle) → IsSome (slot_insn b.slots (last_slot b.slots))
 last_is_place b = grind arith
 
--- a bundle that isn't quiet has one
+-- A bundle that isn't quiet has one.
 stop_inside : (c : Chunk) (code : ℕ) (ks : List ℕ) (is : List Insn) → HoldsInOrder c.wanted code ks is → HasStopsAsWanted c.wanted c.end ks (filled code ks is)
     → has_no_gap c.wanted ≡ false → HasStop (filled code ks is)
 stop_inside c code ks is holds stops h =

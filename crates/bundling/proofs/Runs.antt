@@ -8,7 +8,7 @@ use Rattle.ia_program.proofs.InOrder.{slot_small}
 use Rattle.order_laws.proofs.Falling.{number_rises}
 use Rattle.bundling.proofs.Locating.{in_bundle}
 
--- of two places one comes before the other, or they are the same
+-- Of two places one comes before the other, or they are the same.
 compared_numbers : (a b : ℕ) → (a < b) ⊎ ((a ≡ b) ⊎ (b < a))
 compared_numbers a b = grind arith
 

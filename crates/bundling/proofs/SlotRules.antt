@@ -40,7 +40,7 @@ pub record ArePlaceLaws : Type 0 where
   pub last : LastBStandsLast
   pub next : NextStandsRightBehindB
 
--- the classes of the two
+-- The classes of the two.
 alloc_is_m : (x : Op) → is_alloc (action_of x) ≡ true → class_of x ≡ M
 alloc_is_m (op.Alloc r1 sof sol sor) h = refl
 alloc_is_m (op.Br branch.Cond wh many clr disp) h = absurd (cc)
@@ -81,7 +81,7 @@ unfolding clears_at sequence_insn
 clears_here s n loose here = of_class s n B clears_in loose refl (λ it i is h. clear_is_b it.item.insn.op
     (sym (clears_put itself n it.item.insn it.target) ∙ ap (λ (i : Insn). clears (insn_action i)) (same_Some _ i (sym (it.put_in itself) ∙ is)) ∙ h)) here
 
--- what its chunk wants at it
+-- What its chunk wants at it.
 pub record WantsClass (c : Chunk) (j : ℕ) (class : SlotClass) : Type 0 where
   pub wanted : Wanted
   pub there : slice_get c.wanted j ≡ Some wanted
@@ -110,7 +110,7 @@ m_first laws s cs n k slot c are at of there =
 next_there : (bundles : List Bundle) (place next : Place) → IsNext bundles place next → next_of bundles place ≡ Some next
 next_there bundles place next is = sym (next_same bundles place (Some next) is)
 
--- where a stop is in a part of a bundle, one is wanted
+-- Where a stop is in a part of a bundle, one is wanted.
 wanted_there : (gap : Bool) (b : Bundle) (from before slot : ℕ) → HasStopWhere gap b from before → from ≤ slot → slot < before → has_stop b slot ≡ true → gap ≡ true
 wanted_there true b from before slot h above less stop = refl
 wanted_there false b from before slot h above less stop = let none = h slot above less in absurd (cc)
@@ -121,7 +121,7 @@ same_stop : (gap : Bool) (b : Bundle) (from before slot other : ℕ) → HasStop
 same_stop true b from before slot other h above less stop above_too less_too stop_too = h.only slot above less stop ∙ sym (h.only other above_too less_too stop_too)
 same_stop false b from before slot other h above less stop above_too less_too stop_too = let none = h slot above less in absurd (cc)
 
--- an `alloc` that is first in its bundle stands in slot 0
+-- An `alloc` that is first in its bundle stands in slot 0.
 alloc_head : ArePlaceLaws → (s : Loose) (cs : List Chunk) → AreChunks cs s.items → (n : ℕ) → IsOfClass s n M → IsHead (place_of cs) n → (place_of cs n).slot ≡ 0
 alloc_head laws s cs are n of head =
     let one = in_chunk cs s.items n are of.inside in
@@ -179,7 +179,7 @@ stop_of_two laws s cs are n two x between stopped =
       last = same_stop first.chunk.end b first.slot (suc (last_slot b.slots)) x.slot (last_slot b.slots) stops within.above within.below stop inside (omega arith) end;
     }
 
--- a stop between an `alloc` and the instruction before it follows the place right before it
+-- A stop between an `alloc` and the instruction before it follows the place right before it.
 alloc_stop : ArePlaceLaws → (s : Loose) (cs : List Chunk) → AreChunks cs s.items → (n : ℕ) → IsOfClass s (suc n) M → (x : Place) → IsBetween (program_of s cs) (place_of cs) n x
     → is_stopped (bundles_of s cs) x ≡ true → next_of (bundles_of s cs) x ≡ Some (place_of cs (suc n))
 alloc_stop laws s cs are n of x between stopped = elim (neighbours laws.stops.layouts cs s.items n are of.inside) [
@@ -232,7 +232,7 @@ b_last laws s cs are n of last =
     laws.last c.wanted c.end (layout_of c).0 (layout_of c).1 (part_of cs last.bundle c (targeted (bundle_of cs) s)) last.offset last.slot want.wanted put.laid want.there want.is
     (add-one last.offset ∙ last.last) last.slot_there
 
--- a stop behind it follows it right away
+-- A stop behind it follows it right away.
 clear_stop : ArePlaceLaws → (s : Loose) (cs : List Chunk) → AreChunks cs s.items → (n : ℕ) → suc n < length s.items → IsOfClass s n B → (x : Place) → IsBetween (program_of s cs) (place_of cs) n x
     → is_stopped (bundles_of s cs) x ≡ true → x ≡ place_of cs n
 clear_stop laws s cs are n more of x between stopped = elim (neighbours laws.stops.layouts cs s.items n are more) [

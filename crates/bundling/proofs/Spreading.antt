@@ -24,14 +24,14 @@ use Rattle.bundling.proofs.Locating.{AreLayouts, held, part_of, IsAt, IsPut, put
 use Rattle.bundling.proofs.Targeting.{put, item_at, within_items, insn_there, has_instructions}
 use Rattle.bundling.proofs.Likeness.{like_puts}
 
--- the number of an instruction itself
+-- The number of an instruction itself.
 abbrev pub itself : ℕ → ℕ
 itself n = n
 
 abbrev pub bundles_of : Loose → List Chunk → List Bundle
 bundles_of s cs = bundles_from cs (targeted (bundle_of cs) s)
 
--- each does the same there
+-- Each does the same there.
 pub there : AreLayouts → (s : Loose) (cs : List Chunk) → IsLoose s → AreChunks cs s.items → (n : ℕ) (i : Insn) → slice_get (targeted itself s) n ≡ Some i
     → (j : Insn) × (insn_at (bundles_of s cs) (place_of cs n) ≡ Some j) × DoesLike i j
 there laws s cs loose are n i at =
@@ -43,7 +43,7 @@ there laws s cs loose are n i at =
       subst (λ (i : Insn). DoesLike i (put (bundle_of cs) n it.item it.target)) same (like_puts itself (bundle_of cs) n (bundle_of cs n) it.item.insn it.target),
     )
 
--- they are in order
+-- They are in order.
 slots_rise : (ks : List ℕ) → ((n k l : ℕ) → slice_get ks n ≡ Some k → slice_get ks (n + 1) ≡ Some l → k < l)
     → (j i k l : ℕ) → j < i → slice_get ks j ≡ Some k → slice_get ks i ≡ Some l → k < l
 slots_rise ks rising j zero k l less one two = absurd (omega arith)
@@ -100,7 +100,7 @@ filler None j h = absurd (cc)
 filler (Some units.L) j h = (units.X, sym (same_Some _ j h))
 filler (Some unit) j h = (unit, sym (same_Some _ j h))
 
--- what stands at a place of the program is an instruction of the text, or a nop
+-- What stands at a place of the program is an instruction of the text, or a nop.
 pub fillers : AreLayouts → (cs : List Chunk) (items : List Item) (insns : List Insn) → AreChunks cs items → (place : Place) (j : Insn) → insn_at (bundles_from cs insns) place ≡ Some j
     → ((n : ℕ) × (n < length items) × (place ≡ place_of cs n)) ⊎ IsFiller j
 fillers laws cs items insns are place j here =

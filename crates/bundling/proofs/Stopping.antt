@@ -60,7 +60,7 @@ one_place : (gap : Bool) (bundles : List Bundle) (In : Place → Type 0) → Sto
 one_place true bundles In stops x y first second a b = stops.3 x first a ∙ sym (stops.3 y second b)
 one_place false bundles In stops x y first second a b = let none = stops x first in absurd (cc)
 
--- the gap behind an instruction
+-- The gap behind an instruction.
 gap_in_one : (cs : List Chunk) (n : ℕ) (one : InOne cs n) (x : Wanted) → slice_get one.chunk.wanted (suc one.offset) ≡ Some x → slice_index_or (gaps_of cs) n false ≡ x.gap
 gap_in_one cs n one x wanted =
     get_or_from_slice_get (gaps_of cs) n x.gap false
@@ -132,7 +132,7 @@ stops_between laws s cs are n more = elim (neighbours laws.layouts cs s.items n 
         only x between stopped =
             stop_of_first laws cs s.items insns n two x are between.is between.from (subst (IsBefore x) (ap (place_of cs) (add-one n)) between.below) stopped
 
--- a place that isn't before another
+-- A place that isn't before another.
 pub record IsFrom (bundles : List Bundle) (from : Place) (x : Place) : Type 0 where
   pub is : IsPlaceOf bundles x
   pub from_there : ¬ IsBefore x from
@@ -201,7 +201,7 @@ has_stops laws s cs loose are = record { stopped = stopped; unstopped = unstoppe
         → (place : Place) → IsBetween (program_of s cs) (place_of cs) n place → is_stopped (bundles_of s cs) place ≡ false
     unstopped n more none = subst (λ gap. StopsAre gap (bundles_of s cs) (IsBetween (program_of s cs) (place_of cs) n)) none (stops n more)
 
--- there is no instruction behind the last
+-- There is no instruction behind the last.
 no_place : AreLayouts → (cs : List Chunk) (items : List Item) (n : ℕ) → AreChunks cs items → length items ≤ n → place_of cs n ≡ first_of 0
 unfolding place_of
 no_place laws cs items n are none = let count = length-places laws cs items 0 are in get_or_past (places_of cs) n (first_of 0) (omega arith)

@@ -28,7 +28,7 @@ use Rattle.bundling.specs.Bundled.{relocated, put_in, targeted_from, targeted, l
 use Rattle.bundling.proofs.Lists.{element}
 use Rattle.bundling.proofs.Locating.{AreLayouts, part_of, IsAt, put_at, in_chunk, bundle_at, in_bundle, placed, part_there}
 
--- the instruction of an item that counts as f n
+-- The instruction of an item that counts as f n.
 abbrev pub put : (ℕ → ℕ) → ℕ → Item → Option Address → Insn
 put f n item target = record { qp = item.insn.qp; op = put_in f (f n) item.insn.op target }
 
@@ -78,7 +78,7 @@ item_at s n loose less =
       put_in = λ f. targeted_at f 0 n s.items s.targets one.0 two.0 one.1 two.1 ∙ ap (λ (n : ℕ). Some (put f n one.0 two.0)) number;
     }
 
--- there are as many of them as items
+-- There are as many of them as items.
 pub within_items : (s : Loose) (f : ℕ → ℕ) (n : ℕ) (i : Insn) → IsLoose s → slice_get (targeted f s) n ≡ Some i → n < length s.items
 within_items s f n i loose there = subst (λ m. n < m) (length-targeted f 0 s.items s.targets loose.targets) (slice_get_within (targeted f s) n i there)
 

@@ -17,7 +17,7 @@ use Rattle.loose_items.specs.declared.item.Item.{Item}
 use Rattle.loose_text.specs.LooseTexts.{Loose}
 use Rattle.bundling.specs.Chunk.{Chunk}
 
--- an address of which the bundle counts otherwise
+-- An address of which the bundle counts otherwise.
 abbrev pub relocated : (ℕ → ℕ) → Address → Address
 relocated f (address.Bundle n) = address.Bundle (f n)
 relocated f (address.Byte at) = address.Byte at
@@ -41,11 +41,11 @@ targeted f s = targeted_from f 0 s.items s.targets
 abbrev pub sequence_of : Loose → InsnSequence
 sequence_of s = record { insns = targeted (λ n. n) s; entries = s.entries; relations = s.relations }
 
--- the slots of a bundle's layout, and the code of its template
+-- The slots of a bundle's layout, and the code of its template.
 abbrev pub layout_of : Chunk → ℕ × List ℕ
 layout_of c = unwrap_or (laid_out c.wanted c.end) (0, [])
 
--- the places of the instructions, in order; the first bundle is the n-th
+-- The places of the instructions, in order; the first bundle is the n-th.
 abbrev pub places_from : ℕ → List Chunk → List Place
 places_from n [] = []
 places_from n (c ∷ cs) = map (λ k. record { bundle = n; slot = k }) (layout_of c).1 ++ places_from (n + 1) cs
@@ -53,7 +53,7 @@ places_from n (c ∷ cs) = map (λ k. record { bundle = n; slot = k }) (layout_o
 abbrev pub places_of : List Chunk → List Place
 places_of cs = places_from 0 cs
 
--- the place of the n-th instruction
+-- The place of the n-th instruction.
 unfoldable pub place_of : List Chunk → ℕ → Place
 place_of cs n = slice_index_or (places_of cs) n (first_of 0)
 
@@ -61,17 +61,17 @@ place_of cs n = slice_index_or (places_of cs) n (first_of 0)
 abbrev pub bundle_of : List Chunk → ℕ → ℕ
 bundle_of cs n = (place_of cs n).bundle
 
--- the bundle of the n-th of places, and 0 where there is none
+-- The bundle of the n-th of places, and 0 where there is none.
 abbrev pub bundle_in : List Place → ℕ → ℕ
 bundle_in places n = (slice_index_or places n (first_of 0)).bundle
 
--- the bundles of instructions, with nops of their units in the other slots
+-- The bundles of instructions, with nops of their units in the other slots.
 abbrev pub bundles_from : List Chunk → List Insn → List Bundle
 bundles_from [] insns = []
 bundles_from (c ∷ cs) insns =
     filled (layout_of c).0 (layout_of c).1 (take (length c.wanted) insns) ∷ bundles_from cs (drop (length c.wanted) insns)
 
--- a relation of the bundle that has the instruction
+-- A relation of the bundle that has the instruction.
 abbrev pub relation_moved : (ℕ → ℕ) → Relation → Relation
 relation_moved f r = record { bundle = f r.bundle; p = r.p; q = r.q }
 

@@ -39,8 +39,8 @@ pub record AreChunksOf (s : Loose) (cs : List Chunk) : Type 0 where
   pub chunks : AreChunks cs s.items
   pub few : length cs ≤ BUNDLE_LIMIT
 
--- whether a stop is wanted behind each instruction, in order: between two in a bundle as the second one's gap says, and
--- behind the last of a bundle as its end says
+-- Whether a stop is wanted behind each instruction, in order: between two in a bundle as the second one's gap says, and
+-- behind the last of a bundle as its end says.
 abbrev pub gaps_in : List Wanted → Bool → List Bool
 gaps_in [] end = []
 gaps_in (w ∷ []) end = end ∷ []
@@ -50,13 +50,13 @@ abbrev pub gaps_of : List Chunk → List Bool
 gaps_of [] = []
 gaps_of (c ∷ cs) = gaps_in c.wanted c.end ++ gaps_of cs
 
--- no gap is wanted inside a bundle
+-- No gap is wanted inside a bundle.
 abbrev pub has_no_gap : List Wanted → Bool
 has_no_gap [] = true
 has_no_gap (w ∷ []) = true
 has_no_gap (w ∷ x ∷ ws) = not x.gap && has_no_gap (x ∷ ws)
 
--- no stop is wanted in the bundle or after it
+-- No stop is wanted in the bundle or after it.
 abbrev pub is_quiet : Chunk → Bool
 is_quiet c = not c.end && has_no_gap c.wanted
 

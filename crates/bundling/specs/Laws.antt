@@ -33,7 +33,7 @@ BundledHasInstructions =
     (s : Loose) (cs : List Chunk) (n : ℕ) → IsLoose s → AreChunksOf s cs → n < length s.items
     → insn_at (program_of s cs).bundles (place_of cs n) ≡ slice_get (targeted (bundle_of cs) s) n
 
--- whether a stop is wanted behind the instruction at a place of the sequence
+-- Whether a stop is wanted behind the instruction at a place of the sequence.
 abbrev pub sequence_stop : List Chunk → Place → Bool
 sequence_stop cs place = slice_index_or (gaps_of cs) place.bundle false
 

@@ -17,11 +17,11 @@ use Rattle.emulator.specs.declared.code.TheConstants.{NO_PLACE}
 use Rattle.emulator.specs.declared.code.CodeSlot.{CodeSlot}
 use Rattle.emulator.specs.Codes.{number_of, numbered, no_slot, IsCodeSlot}
 
--- the numbers of the places of a program
+-- The numbers of the places of a program.
 pub number_small : (p : Program) (n : ℕ) → IsProgram p → IsPlaceOf p.bundles (place_at n) → n < 3 * length p.bundles
 number_small p n program is = let small = bundle_small p.bundles (place_at n) is in omega arith
 
--- are few
+-- are few.
 pub number_below : (p : Program) (n : ℕ) → IsProgram p → IsPlaceOf p.bundles (place_at n) → n < 2 ^ 32
 number_below p n program is = let small = number_small p n program is in omega (arith, program.counts.bundles)
 
@@ -47,7 +47,7 @@ pub below_none : (o : Option Place) → IsNumbered o → IfSome o (λ place. pla
 below_none None h = tt
 below_none (Some place) h = h.1
 
--- the place with the number of a place is that
+-- The place with the number of a place is that.
 pub numbered_back : (o : Option Place) → IsNumbered o → numbered (number_of o) ≡ o
 numbered_back None h = refl
 numbered_back (Some place) h = let e = place_at-number place h.0 in grind (arith, nat_tests, h.1)

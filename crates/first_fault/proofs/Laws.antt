@@ -14,7 +14,7 @@ AreSound (s ∷ later) = IsSound s × AreSound later
 pub unless_sound : {Fault : Type 0} (Holds : Type 0) (f : Fault) → IsSound (unless Holds f)
 unless_sound Holds f = record { one = λ a b fails also. refl; none = λ a fails holds. fails holds }
 
--- there is at most one first fault
+-- There is at most one first fault.
 pub one_fault : {Fault : Type 0} (stages : List (Stage Fault)) → AreSound stages → (f g : Fault) → IsFirstFault stages f → IsFirstFault stages g → f ≡ g
 one_fault [] sound f g a b = absurd a
 one_fault (s ∷ later) sound f g (inl a) (inl b) = a.1 ∙ ap s.fault (sound.0.one a.0 b.0 a.2 b.2) ∙ sym b.1
@@ -22,13 +22,13 @@ one_fault (s ∷ later) sound f g (inl a) (inr b) = absurd (sound.0.none a.0 a.2
 one_fault (s ∷ later) sound f g (inr a) (inl b) = absurd (sound.0.none b.0 b.2 a.0)
 one_fault (s ∷ later) sound f g (inr a) (inr b) = one_fault later sound.1 f g a.1 b.1
 
--- there is none where every stage is passed
+-- There is none where every stage is passed.
 pub no_fault : {Fault : Type 0} (stages : List (Stage Fault)) → AreSound stages → ArePassed stages → (f : Fault) → IsFirstFault stages f → ⊥
 no_fault [] sound passed f a = a
 no_fault (s ∷ later) sound passed f (inl a) = sound.0.none a.0 a.2 passed.0
 no_fault (s ∷ later) sound passed f (inr a) = no_fault later sound.1 passed.1 f a.1
 
--- a stage finds a fault or is passed
+-- A stage finds a fault or is passed.
 abbrev pub IsDecided : {Fault : Type 0} → Stage Fault → Type 0
 IsDecided s = ((key : s.Key) × s.Finds key) ⊎ s.IsPassed
 
@@ -36,7 +36,7 @@ abbrev pub AreDecided : {Fault : Type 0} → List (Stage Fault) → Type 0
 AreDecided [] = Unit {0}
 AreDecided (s ∷ later) = IsDecided s × AreDecided later
 
--- where each stage finds a fault or is passed, there is a first fault or every stage is passed
+-- Where each stage finds a fault or is passed, there is a first fault or every stage is passed.
 pub some_fault : {Fault : Type 0} (stages : List (Stage Fault)) → AreDecided stages → ((f : Fault) × IsFirstFault stages f) ⊎ ArePassed stages
 some_fault [] decided = inr tt
 some_fault (s ∷ later) (inl found, others) = inl (s.fault found.0, inl (found.0, refl, found.1))
@@ -45,7 +45,7 @@ some_fault (s ∷ later) (inr passed, others) = elim (some_fault later others) [
   | inr all ↦ inr (passed, all)
 ]
 
--- a stage isn't without a fault unless it is passed
+-- A stage isn't without a fault unless it is passed.
 abbrev pub IsNotOpen : {Fault : Type 0} → Stage Fault → Type 0
 IsNotOpen s = ((key : s.Key) → s.Finds key → ⊥) → (s.IsPassed → ⊥) → ⊥
 

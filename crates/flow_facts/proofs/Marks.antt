@@ -14,12 +14,12 @@ use Rattle.flow_facts.specs.Tables.{Shrinks, Joined, IsSameBut, HasCome, MarksCh
 use Rattle.flow_facts.proofs.Joining.{at_most_one}
 use Rattle.flow_facts.proofs.Numbering.{cases_place, value_at-place_at, value_at-set_same, value_at-set_other}
 
--- what is known of a place is the same
+-- What is known of a place is the same.
 pub same_refl : (w : ℕ) (k : Known) → IsSameBut w k k
 same_refl w None = tt
 same_refl w (Some rows) = record { same = λ x y n. refl }
 
--- the word of all rows is within a word that has each of its rows
+-- The word of all rows is within a word that has each of its rows.
 all_within : (v w : ℕ) → ((x : ℕ) → has_bit w x ≡ false → has_bit v x ≡ false) → HasAllRows v → HasAllRows w
 all_within v w within all x l = by_bit (cases_Bool (has_bit w x))
   where
@@ -27,7 +27,7 @@ all_within v w within all x l = by_bit (cases_Bool (has_bit w x))
     by_bit (inl t) = t
     by_bit (inr n) = absurd (true≢false (sym (all x l) ∙ within x n))
 
--- two changes are one, of rows that are all in the second word
+-- Two changes are one, of rows that are all in the second word.
 pub same_trans : (v w : ℕ) (a b c : Known) → ((x : ℕ) → has_bit w x ≡ false → has_bit v x ≡ false) → IsSameBut v a b → IsSameBut w b c → IsSameBut w a c
 same_trans v w None None c within f g = g
 same_trans v w None (Some b) None within f g = absurd g
@@ -40,26 +40,26 @@ same_trans v w (Some a) (Some b) (Some c) within f g = record { same = λ x y n.
 pub same_within : (v w : ℕ) (a b : Known) → ((x : ℕ) → has_bit w x ≡ false → has_bit v x ≡ false) → IsSameBut v a b → IsSameBut w a b
 same_within v w a b within f = same_trans v w a b b within f (same_refl w b)
 
--- what came to a place has come while no place knows more
+-- What came to a place has come while no place knows more.
 pub come_shrinks : (t t' : List Known) (to : Place) (past : Pairs → Pairs) (w : ℕ) (now : Known) → Shrinks t t' → HasCome t to past w now → HasCome t' to past w now
 come_shrinks t t' to past w now s h = record { older = h.older; same = h.same; came = λ rows e. s.keeps to _ (h.came rows e) }
 
--- nothing is to have come from where nothing was known
+-- Nothing is to have come from where nothing was known.
 pub come_unknown : (t : List Known) (to : Place) (past : Pairs → Pairs) (w : ℕ) (now : Known) → IsSameBut w None now → HasCome t to past w now
 come_unknown t to past w now same = record { older = None; same = same; came = λ rows e. absurd (none-some rows e) }
 
--- the rows of a place are marked, and those of the others stay
+-- The rows of a place are marked, and those of the others stay.
 or_left_out : (a b x : ℕ) → has_bit (bit_or a b) x ≡ false → (has_bit a x ≡ false) × (has_bit b x ≡ false)
 or_left_out a b x n = or_parts (has_bit a x) (has_bit b x) (sym (has_bit_or a b x) ∙ n)
 
 marked_there : (d : List ℕ) (n rows : ℕ) (k : Place) → n < length d → k ≡ place_at n → marked (set d n (bit_or (get_or d n 0) rows)) k ≡ bit_or (marked d k) rows
 marked_there d n rows k l e = ap (marked (set d n (bit_or (get_or d n 0) rows))) e ∙ value_at-set_same 0 (bit_or (get_or d n 0) rows) d n l ∙ ap (λ (m : ℕ). bit_or m rows) (sym (value_at-place_at 0 d n) ∙ ap (marked d) (sym e))
 
--- each row of a place is marked
+-- Each row of a place is marked.
 pub all_marked : (d : List ℕ) (n : ℕ) (k : Place) → n < length d → k ≡ place_at n → HasAllRows (marked (set d n (bit_or (get_or d n 0) 18446744073709551615)) k)
 all_marked d n k l e x m = ap (λ (w : ℕ). has_bit w x) (marked_there d n 18446744073709551615 k l e) ∙ has_bit_or (marked d k) 18446744073709551615 x ∙ (rw (has_bit_all x m) (or_right (has_bit (marked d k) x) true refl))
 
--- nothing has changed
+-- Nothing has changed.
 pub no_progress : (t : List Known) (d : List ℕ) → MarksChanges t d t d
 no_progress t d = record {
   shrinks = record { same_length = refl; keeps = λ k f most. most };
@@ -68,7 +68,7 @@ no_progress t d = record {
   changed = λ k. same_refl (marked d k) (known_at t k);
 }
 
--- one place has changed, and its rows that did are marked
+-- One place has changed, and its rows that did are marked.
 pub progress_marked : (t t' : List Known) (d : List ℕ) (to rows : ℕ) (out : Pairs) → to < length d → Joined t t' (place_at to) out → IsSameBut rows (known_at t (place_at to)) (known_at t' (place_at to)) → MarksChanges t d t' (set d to (bit_or (get_or d to 0) rows))
 progress_marked t t' d to rows out l joined same = record {
   shrinks = joined.shrinks;
@@ -90,7 +90,7 @@ progress_marked t t' d to rows out l joined same = record {
         same_within rows (marked new k) (known_at t k) (known_at t' k) (λ x n. (or_left_out (marked d k) rows x (ap (λ (w : ℕ). has_bit w x) (sym (marked_there d to rows k l e)) ∙ n)).1) there
     changed k (inr e) = subst (IsSameBut (marked new k) (known_at t k)) (sym (joined.others k e)) (same_refl (marked new k) (known_at t k))
 
--- no row of a place has changed
+-- No row of a place has changed.
 pub progress_same : (t t' : List Known) (d : List ℕ) (to : ℕ) (out : Pairs) → Joined t t' (place_at to) out → IsSameBut 0 (known_at t (place_at to)) (known_at t' (place_at to)) → MarksChanges t d t' d
 progress_same t t' d to out joined same = record {
   shrinks = joined.shrinks;
@@ -103,7 +103,7 @@ progress_same t t' d to out joined same = record {
     changed k (inl e) = same_within 0 (marked d k) (known_at t k) (known_at t' k) (λ x n. has_bit_none x) (subst (λ (q : Place). IsSameBut 0 (known_at t q) (known_at t' q)) (sym e) same)
     changed k (inr e) = subst (IsSameBut (marked d k) (known_at t k)) (sym (joined.others k e)) (same_refl (marked d k) (known_at t k))
 
--- two steps are one
+-- Two steps are one.
 pub progress_twice : (a b c : List Known) (d e f : List ℕ) → MarksChanges a d b e → MarksChanges b e c f → MarksChanges a d c f
 progress_twice a b c d e f g h = record {
   shrinks = record { same_length = h.shrinks.same_length ∙ g.shrinks.same_length; keeps = λ k f m. h.shrinks.keeps k f (g.shrinks.keeps k f m) };
@@ -112,7 +112,7 @@ progress_twice a b c d e f g h = record {
   changed = λ k. same_trans (marked e k) (marked f k) (known_at a k) (known_at b k) (known_at c k) (h.keeps k) (g.changed k) (h.changed k);
 }
 
--- with one place marked, at most one more is dirty
+-- With one place marked, at most one more is dirty.
 pub dirty_count-set : (d : List ℕ) (n rows : ℕ) → n < length d → dirty_count (set d n rows) ≤ dirty_count d + 1
 dirty_count-set d n rows l = omega (arith, sum_by-set (λ (w : ℕ). cond (eqb w 0) 0 1) d n rows 0 l, at_most_one (eqb rows 0))
 

@@ -25,7 +25,7 @@ use Rattle.flow_facts.specs.Tables.{weight, place_count, AtMost, Joined, IsWitne
 use Rattle.flow_facts.proofs.Numbering.{number_below, cases_place, value_at-place_at, value_at-set_other}
 use Rattle.flow_facts.proofs.Marks.{no_progress, progress_marked, progress_same, progress_twice, same_trans, come_shrinks, dirty_count-set, dirty_count-less}
 
--- more before a place is more past it
+-- More before a place is more past it.
 pub past_within : (p : Program) (from : Place) (e : Edge) (f g : Pairs) → IsWithin f g → IsWithin (pairs_past p from e f) (pairs_past p from e g)
 unfolding pairs_past
 past_within p from e f g w = of (insn_at p.bundles from)
@@ -39,7 +39,7 @@ pub data WhyMissingPast (p : Program) (from : Place) (e : Edge) (f : Pairs) (x y
   whatever_before : ((g : Pairs) → pairs_past p from e g x y ≡ false) → WhyMissingPast p from e f x y
   since_before : (a b : ℕ) → f a b ≡ false → ((g : Pairs) → g a b ≡ false → pairs_past p from e g x y ≡ false) → WhyMissingPast p from e f x y
 
--- why a pair is missing past a place
+-- Why a pair is missing past a place.
 pub why_missing_past : (p : Program) (from : Place) (e : Edge) (f : Pairs) (x y : ℕ) → pairs_past p from e f x y ≡ false → WhyMissingPast p from e f x y
 unfolding pairs_past
 why_missing_past p from e f x y h = of (insn_at p.bundles from) refl h
@@ -52,11 +52,11 @@ why_missing_past p from e f x y h = of (insn_at p.bundles from) refl h
         by_rule (whatever all) = whatever_before (λ g. rw is (all g))
         by_rule (since a b n r) = since_before a b n (λ g q. rw is (r g q))
 
--- an edge of one sort leads to one place
+-- An edge of one sort leads to one place.
 pub leads_to_one : (p : Program) (from : Place) (e : Edge) (a b : Place) → HasEdge p from e a → HasEdge p from e b → a ≡ b
 leads_to_one p from e a b f g = same_Some _ _ (sym f.leads ∙ g.leads)
 
--- a walk goes on along an edge from its end
+-- A walk goes on along an edge from its end.
 pub longer : (p : Program) (from to : Place) (e : Edge) (w : Walk) → EndsAt p from w → HasEdge p from e to → EndsAt p to (goes_on w e to)
 longer p from to e w is edge = record { walks = (is.walks, (let P : Place → Type 0 = λ k. HasEdge p k e to in subst P (sym is.ends) edge)); ends = refl }
 
@@ -64,7 +64,7 @@ longer p from to e w is edge = record { walks = (is.walks, (let P : Place → Ty
 pub facts_longer : (p : Program) (from to : Place) (e : Edge) (w : Walk) → EndsAt p from w → facts_on p (goes_on w e to) ≡ pairs_past p from e (facts_on p w)
 facts_longer p from to e w is = ap (λ (k : Place). pairs_past p k e (facts_on p w)) is.ends
 
--- a pair that is missing after an edge is missing on some walk
+-- A pair that is missing after an edge is missing on some walk.
 lacking_along : (p : Program) (from : Place) (e : Edge) (to : Place) (f : Pairs) → IsWitnessedAt p from f → HasEdge p from e to → (x y : ℕ) → WhyMissingPast p from e f x y → (w : Walk) × EndsAt p to w × (facts_on p w x y ≡ false)
 lacking_along p from e to f wit edge x y (whatever_before h) =
     let (w, is) = wit.reached in
@@ -73,7 +73,7 @@ lacking_along p from e to f wit edge x y (since_before a b n h) =
     let (w, is, m) = wit.lacking a b n in
     (goes_on w e to, longer p from to e w is edge, ap (λ (f : Pairs). f x y) (facts_longer p from to e w is) ∙ h (facts_on p w) m)
 
--- what is known past a place is witnessed at the end of an edge
+-- What is known past a place is witnessed at the end of an edge.
 pub witnessed_along : (p : Program) (from : Place) (e : Edge) (to : Place) (f : Pairs) → IsWitnessedAt p from f → HasEdge p from e to → IsWitnessedAt p to (pairs_past p from e f)
 witnessed_along p from e to f wit edge = record {
   reached = (let (w, is) = wit.reached in (goes_on w e to, longer p from to e w is edge));
@@ -87,7 +87,7 @@ witnessed_entry p bundle entry = record {
   lacking = λ x y n. (begins bundle, record { walks = entry; ends = refl }, n);
 }
 
--- what is witnessed at a place and is joined into it leaves witnesses of each place
+-- What is witnessed at a place and is joined into it leaves witnesses of each place.
 pub witnessed_by : (p : Program) (t t' : List Known) (to : Place) (out : Pairs) → IsWitnessed p t → IsWitnessedAt p to out → Joined t t' to out → IsWitnessed p t'
 witnessed_by p t t' to out wit came joined = record { at = λ k rows is. at k rows is (cases_place k to) }
   where
@@ -107,11 +107,11 @@ pub record ComesAlong (p : Program) (from : Place) (e : Edge) (to : ℕ) (t t' :
   pub below : to < place_count p
   pub joined : Joined t t' (place_at to) (pairs_past p from e before)
 
--- the number of the end of an edge
+-- The number of the end of an edge.
 pub edge_number : (p : Program) (from : Place) (e : Edge) (to : Place) (n : ℕ) → HasEdge p from e to → n ≡ place_number to → (place_at n ≡ to) × (n < place_count p)
 edge_number p from e to n edge number = (ap place_at number ∙ place_at-number to (slot_small p.bundles to edge.lands), omega (arith, number, number_below p (place_count p) to refl edge.lands))
 
--- by the slot
+-- By the slot.
 pub comes_along : (p : Program) (from : Place) (e : Edge) (to : Place) (n : ℕ) (slot : Slot) (t t' : List Known) (before : Pairs) → slot_at p.bundles from ≡ Some slot → HasEdge p from e to → n ≡ place_number to → Joined t t' (place_at n) (pairs_by before (action_rule slot.action e slot.qp)) → ComesAlong p from e n t t' before
 comes_along p from e to n slot t t' before here edge number joined =
     let there = edge_number p from e to n edge number in
@@ -127,11 +127,11 @@ come_by_slot p from e to n slot t w now here there come =
     let same : pairs_past p from e ≡ (λ f. pairs_by f (action_rule slot.action e slot.qp)) = fun_ext (λ f. sym (pairs_by-slot p from slot e f here)) in
     subst (λ (past : Pairs → Pairs). HasCome t (place_at n) past w now) same (subst (λ (q : Place). HasCome t q (pairs_past p from e) w now) (sym there) come)
 
--- nothing comes where there is no edge of this sort
+-- Nothing comes where there is no edge of this sort.
 pub passed_none : (p : Program) (from : Place) (e : Edge) (before : Pairs) (t : List Known) (d : List ℕ) → IsWitnessed p t → ((to : Place) → HasEdge p from e to → ⊥) → Passed p from e before t d t d
 passed_none p from e before t d wit none = record { witnessed = wit; others = λ k apart. refl; come = λ to edge. absurd (none to edge); progress = no_progress t d; lost = omega arith }
 
--- what has come along an edge has come along each of its sort
+-- What has come along an edge has come along each of its sort.
 pub passed_by : (p : Program) (from : Place) (e : Edge) (to : ℕ) (before : Pairs) (t t' : List Known) (d d' : List ℕ) → IsWitnessed p t → IsWitnessedAt p from before → ComesAlong p from e to t t' before → MarksChanges t d t' d' → weight t' + dirty_count d' ≤ weight t + dirty_count d → Passed p from e before t d t' d'
 passed_by p from e to before t t' d d' wit here came progress lost = record {
   witnessed = witnessed_by p t t' (place_at to) _ wit (witnessed_along p from e (place_at to) before here came.edge) came.joined;
@@ -141,7 +141,7 @@ passed_by p from e to before t t' d d' wit here came progress lost = record {
   lost = lost;
 }
 
--- where rows of the edge's end changed, they are marked
+-- Where rows of the edge's end changed, they are marked.
 pub passed_changed : (p : Program) (from : Place) (e : Edge) (to rows : ℕ) (before : Pairs) (t t' : List Known) (d : List ℕ) → length d ≡ place_count p → IsWitnessed p t → IsWitnessedAt p from before → ComesAlong p from e to t t' before → IsSameBut rows (known_at t (place_at to)) (known_at t' (place_at to)) → weight t' + 1 ≤ weight t → Passed p from e before t d t' (set d to (bit_or (get_or d to 0) rows))
 passed_changed p from e to rows before t t' d sized wit here came same less =
     let short : to < length d = omega (arith, came.below, sized) in
@@ -151,7 +151,7 @@ passed_changed p from e to rows before t t' d sized wit here came same less =
 pub passed_same : (p : Program) (from : Place) (e : Edge) (to : ℕ) (before : Pairs) (t t' : List Known) (d : List ℕ) → IsWitnessed p t → IsWitnessedAt p from before → ComesAlong p from e to t t' before → IsSameBut 0 (known_at t (place_at to)) (known_at t' (place_at to)) → weight t' ≤ weight t → Passed p from e before t d t' d
 passed_same p from e to before t t' d wit here came same less = passed_by p from e to before t t' d d wit here came (progress_same t t' d to _ came.joined same) (omega (arith, less))
 
--- what is known at a place that is gone on from may pass along its edges
+-- What is known at a place that is gone on from may pass along its edges.
 pub may_pass : (p : Program) (t : List Known) (d : List ℕ) (n rows : ℕ) (e : Edge) (before : Table) → IsBetweenSteps p t d → known_at t (place_at n) ≡ Some before → rows ≡ get_or d n 0 → MayPass p (place_at n) e rows t before
 may_pass p t d n rows e before u known taken = record {
   witnessed = u.witnessed;
@@ -159,7 +159,7 @@ may_pass p t d n rows e before u known taken = record {
   come = λ to edge. subst (λ (w : ℕ). HasCome t to (pairs_past p (place_at n) e) w (Some before)) (value_at-place_at 0 d n ∙ sym taken) (subst (HasCome t to (pairs_past p (place_at n) e) (marked d (place_at n))) known (u.come (place_at n) e to edge));
 }
 
--- and does so after it has passed along a fall, which leads to another place
+-- And does so after it has passed along a fall, which leads to another place.
 pub may_pass_on : (p : Program) (from : Place) (e : Edge) (rows : ℕ) (t t' : List Known) (d d' : List ℕ) (before : Table) → MayPass p from e rows t before → Passed p from Falls (pairs_of before) t d t' d' → MayPass p from e rows t' before
 may_pass_on p from e rows t t' d d' before may passed = record {
   witnessed = passed.witnessed;
@@ -167,7 +167,7 @@ may_pass_on p from e rows t t' d d' before may passed = record {
   come = λ to edge. come_shrinks t t' to (pairs_past p from e) rows (Some before) passed.progress.shrinks (may.come to edge);
 }
 
--- the place is no longer dirty, and what was known there has come along both sorts of edges
+-- The place is no longer dirty, and what was known there has come along both sorts of edges.
 pub two_passes : (p : Program) (t t1 t2 : List Known) (d d1 d2 : List ℕ) (n : ℕ) (before : Table) → IsBetweenSteps p t d → known_at t (place_at n) ≡ Some before → Passed p (place_at n) Falls (pairs_of before) t (set d n 0) t1 d1 → Passed p (place_at n) Taken (pairs_of before) t1 d1 t2 d2 → IsBetweenSteps p t2 d2
 two_passes p t t1 t2 d d1 d2 n before u is f g = record {
   table_length = all.shrinks.same_length ∙ u.table_length;

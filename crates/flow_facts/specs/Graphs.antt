@@ -24,11 +24,11 @@ pub data Graph : Type 0 where
   over_program : Program → Graph
   over_sequence : InsnSequence → Graph
 
--- the instruction of a sequence at a place
+-- The instruction of a sequence at a place.
 unfoldable pub sequence_insn : List Insn → Place → Option Insn
 sequence_insn insns place = if place.slot == 0 then slice_get insns place.bundle else None
 
--- the place of the next one, where there is one
+-- The place of the next one, where there is one.
 unfoldable pub sequence_next : List Insn → Place → Option Place
 sequence_next insns place = if nat_lt (place.bundle + 1) (length insns) then Some (first_of (place.bundle + 1)) else None
 
@@ -37,7 +37,7 @@ pub record IsSequenceEntry (sequence : InsnSequence) (n : ℕ) : Type 0 where
   pub inside : n < length sequence.insns
   pub kind : (n ≡ 0) ⊎ (Contains sequence.entries n ⊎ ((1 ≤ n) × IsSomeAnd (slice_get sequence.insns (n - 1)) (λ i. IsCall i.op)))
 
--- by the instruction at the place
+-- By the instruction at the place.
 abbrev pub sequence_end_of : List Insn → Place → Option Insn → Edge → Option Place
 sequence_end_of insns from None e = None
 sequence_end_of insns from (Some insn) Falls = if may_fall insn then sequence_next insns from else None
@@ -50,21 +50,21 @@ pub record HasSequenceEdge (sequence : InsnSequence) (from : Place) (e : Edge) (
   pub leads : sequence_end_of sequence.insns from (sequence_insn sequence.insns from) e ≡ Some to
   pub lands : IsSome (sequence_insn sequence.insns to)
 
--- the instruction at a place
+-- The instruction at a place.
 abbrev pub insn_in : Graph → Place → Option Insn
 insn_in (over_program p) place = insn_at p.bundles place
 insn_in (over_sequence sequence) place = sequence_insn sequence.insns place
 
--- the next place, where there is one
+-- The next place, where there is one.
 abbrev pub next_in : Graph → Place → Option Place
 next_in (over_program p) place = next_of p.bundles place
 next_in (over_sequence sequence) place = sequence_next sequence.insns place
 
--- a place of it: one that has an instruction
+-- A place of it: one that has an instruction.
 abbrev pub IsPlaceIn : Graph → Place → Type 0
 IsPlaceIn g place = IsSome (insn_in g place)
 
--- where walks begin, by the bundle
+-- Where walks begin, by the bundle.
 abbrev pub IsEntryIn : Graph → ℕ → Type 0
 IsEntryIn (over_program p) n = IsEntry p n
 IsEntryIn (over_sequence sequence) n = IsSequenceEntry sequence n
@@ -73,7 +73,7 @@ abbrev pub IsEdgeIn : Graph → Place → Edge → Place → Type 0
 IsEdgeIn (over_program p) from e to = HasEdge p from e to
 IsEdgeIn (over_sequence sequence) from e to = HasSequenceEdge sequence from e to
 
--- what is known past the instruction at a place, on the way along an edge; before it, the pairs f are known
+-- What is known past the instruction at a place, on the way along an edge; before it, the pairs f are known.
 unfoldable pub sequence_past : List Insn → Place → Edge → Pairs → Pairs
 sequence_past insns place e f = pairs_past_insn (sequence_insn insns place) e f
 
@@ -81,12 +81,12 @@ abbrev pub pairs_past_in : Graph → Place → Edge → Pairs → Pairs
 pairs_past_in (over_program p) place e f = pairs_past p place e f
 pairs_past_in (over_sequence sequence) place e f = sequence_past sequence.insns place e f
 
--- the pairs of f and those of declared relations
+-- The pairs of f and those of declared relations.
 abbrev pub with_relations : Pairs → List Relation → Pairs
 with_relations f [] = f
 with_relations f (r ∷ rs) = with_relations (with_pair f r.p r.q) rs
 
--- what is known where a walk begins at an entry: what the entry declares
+-- What is known where a walk begins at an entry: what the entry declares.
 unfoldable pub known_at_entry : List Relation → ℕ → Pairs
 known_at_entry relations n = with_relations no_pairs (relations_at relations n)
 

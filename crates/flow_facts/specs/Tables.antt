@@ -12,30 +12,30 @@ use Rattle.predicate_rel.specs.Edges.{HasEdge, pairs_past}
 use Rattle.flow_facts.specs.declared.bitmap.TheConstants.{BLOCK}
 use Rattle.flow_facts.specs.Walks.{Walk, EndsAt, Known, known_at, value_at, known_first, facts_on}
 
--- how many of the first n numbers a row has
+-- How many of the first n numbers a row has.
 unfoldable pub row_size : (ℕ → Bool) → ℕ → ℕ
 row_size f zero = 0
 row_size f (suc n) = row_size f n + (if f n then 1 else 0)
 
--- how many pairs the first n rows have
+-- How many pairs the first n rows have.
 unfoldable pub size_upto : Pairs → ℕ → ℕ
 size_upto f zero = 0
 size_upto f (suc n) = size_upto f n + row_size (f n) 64
 
--- how many pairs of predicates a set has
+-- How many pairs of predicates a set has.
 unfoldable pub size_of : Pairs → ℕ
 size_of f = size_upto f 64
 
--- what a place can still lose: it is found to be reached, and then each of its pairs
+-- What a place can still lose: it is found to be reached, and then each of its pairs.
 unfoldable pub weight_at : Known → ℕ
 weight_at None = 4097
 weight_at (Some rows) = size_of (pairs_of rows)
 
--- what the whole table can still lose
+-- What the whole table can still lose.
 abbrev pub weight : List Known → ℕ
 weight table = sum_by weight_at table
 
--- how many places a program has room for: three slots a bundle
+-- How many places a program has room for: three slots a bundle.
 abbrev pub place_count : Program → ℕ
 place_count p = 3 * length p.bundles
 
@@ -109,11 +109,11 @@ pub record EdgeSettled (p : Program) (table : List Known) (from : Place) (e : Ed
 abbrev pub marked : List ℕ → Place → ℕ
 marked dirty place = value_at 0 dirty place
 
--- how many places are still to be gone on from
+-- How many places are still to be gone on from.
 abbrev pub dirty_count : List ℕ → ℕ
 dirty_count dirty = sum_by (λ (rows : ℕ). if rows == 0 then 0 else 1) dirty
 
--- the n-th mark of words, 64 in each
+-- The n-th mark of words, 64 in each.
 abbrev pub is_marked : List ℕ → ℕ → Bool
 is_marked words n = has_bit (slice_index_or words (n / BLOCK) 0) (n % BLOCK)
 

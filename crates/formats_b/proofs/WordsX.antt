@@ -15,7 +15,7 @@ use Rattle.formats_b.specs.RowIndexesX.{row_index_of}
 use Rattle.formats_b.proofs.TableX.{are_table, is_row_index_of}
 use Rattle.formats_b.proofs.PartsX.{whole_back, IsPart, slot_again, low_again, within_again, low_below}
 
--- the row of an instruction of the X slot
+-- The row of an instruction of the X slot.
 pub row_x : (i : Insn) (w : ℕ) → HasRow rows i w → AsRow rows (row_index_of (opcode_of i.op)) i
 row_x i w code = as_row rows (row_index_of (opcode_of i.op)) i w (is_row_index_of (opcode_of i.op)) code
 

@@ -10,7 +10,7 @@ use Rattle.formats_b.specs.declared.family_x.rows.TheConstants.{ROWS}
 unfoldable pub rows : List Row
 rows = ROWS
 
--- the instruction with what the X slot holds of its immediate
+-- The instruction with what the X slot holds of its immediate.
 abbrev pub slot_part : Insn → Insn
 slot_part insn = record { qp = insn.qp; op = slot_op insn.op }
 

@@ -6,7 +6,7 @@ use Rattle.ia_meaning.specs.State.{IsFrame}
 use Rattle.ia_meaning.specs.Frames.{has_zero_bases, with_sizes, rotated, cleared}
 use Rattle.frame_shapes.specs.Faults.{alloc_fault_within, alloc_fault}
 
--- a frame that is renamed ends where it ended
+-- A frame that is renamed ends where it ended.
 pub rotated_end : (f : FrameShape) → (rotated f).base + (rotated f).sof ≡ f.base + f.sof
 unfolding rotated
 rotated_end f = refl

@@ -21,7 +21,7 @@ pub return_fault_is : ReturnFaultIsThat
 unfolding return_fault_within return_fault
 return_fault_is base f = by_tests (not (is_frame f)) (nat_lt base f.sol) (nat_lt STACK_LIMIT (base - f.sol + f.sof))
 
--- a return that has no fault has none in a stack of that limit
+-- A return that has no fault has none in a stack of that limit.
 pub return_free : (limit base : ℕ) (f : FrameShape) → limit ≡ STACK_LIMIT → return_fault base f ≡ None → return_fault_within limit base f ≡ None
 return_free limit base f e free = rw e (none_of (return_fault_within STACK_LIMIT base f) (return_fault_is base f ∙ free))
   where

@@ -6,11 +6,11 @@ use Rattle.std.proofs.lemmas.Option.{slice_get_cases}
 use Rattle.group_checker.specs.declared.window.EarlierSlot.{EarlierSlot}
 use Rattle.group_checker.specs.Windows.{IsAt}
 
--- a number has one slot
+-- A number has one slot.
 pub at_once : (xs : List EarlierSlot) (m : ℕ) (a b : EarlierSlot) → IsAt xs m a → IsAt xs m b → a ≡ b
 at_once xs m a b h k = sym h.is ∙ get_or_default xs m a b h.short ∙ k.is
 
--- each number below the length has its slot
+-- Each number below the length has its slot.
 pub earlier_at : (xs : List EarlierSlot) (m : ℕ) (d : EarlierSlot) → m < length xs → IsAt xs m (get_or xs m d)
 earlier_at xs m d l = record { short = l; is = get_or_default xs m (get_or xs m d) d l }
 
@@ -21,7 +21,7 @@ some_at xs m l = elim (slice_get_cases xs m).1 [
   | inr (beyond, is) ↦ absurd (omega arith)
 ]
 
--- what an index answers
+-- What an index answers.
 pub indexed : (xs : List EarlierSlot) (m : ℕ) (a : EarlierSlot) → m < length xs → a ≡ get_or xs m a → IsAt xs m a
 indexed xs m a l e = record { short = l; is = sym e }
 

@@ -22,7 +22,7 @@ pub record IsOpenOn (g : Graph) (has_stop : Place → Bool) (i j : Place) (guard
   pub through : IsThrough g has_stop i j walk
   pub stays : ¬ IsExcused g has_stop walk i guard other
 
--- a slot from the n-th on is passed by each walk through the n-th, and not before it
+-- A slot from the n-th on is passed by each walk through the n-th, and not before it.
 from_on : (g : Graph) (has_stop : Place → Bool) (es : List EarlierSlot) (j : Place) (n m : ℕ) (e b : EarlierSlot) (w : Walk) → IsWindow g has_stop es j → IsAt es n e → IsAt es m b → n ≤ m → IsThrough g has_stop e.place j w → Contains (group_since has_stop w) b.place × ¬ IsBefore b.place e.place
 from_on g has_stop es j n m e b w win at here late through = of (cases_eq m n)
   where
@@ -36,12 +36,12 @@ from_on g has_stop es j n m e b w win at here late through = of (cases_eq m n)
       λ before. not_before_itself b.place (before_trans b.place e.place b.place before (win.rises n m e b at here (omega arith))),
     )
 
--- a pair that is known is one of predicates
+-- A pair that is known is one of predicates.
 below_64 : (rows : Table) (guard other : ℕ) → pairs_of rows guard other ≡ true → guard < 64
 unfolding pairs_of
 below_64 rows guard other e = let both = and_parts (in_range guard other) (truth rows guard other) e in (in_range_parts guard other both.0).0
 
--- where the test fails, some walk doesn't excuse the two
+-- Where the test fails, some walk doesn't excuse the two.
 pub opens : (g : Graph) (has_stop : Place → Bool) (es : List EarlierSlot) (j : Place) (n : ℕ) (e : EarlierSlot) (guard other : ℕ) → IsWindow g has_stop es j → IsAt es n e → excused_by e guard other ≡ false → IsOpenOn g has_stop e.place j guard other
 opens g has_stop es j n e guard other win at fails = elim (cases_Bool (pairs_of e.known guard other)) [
   | inl t ↦ (elim (and_cases (pairs_of e.known guard other) (not (has_bit e.written guard)) fails) [
@@ -64,7 +64,7 @@ opens g has_stop es j n e guard other win at fails = elim (cases_Bool (pairs_of 
         let place = from_on g has_stop es j n x.index e x.slot w win at x.at x.late through in
         record { walk = w; through = through; stays = λ y. true≢false (sym x.writes ∙ y.unwritten x.slot.place place.0 place.1) }
 
--- where the test holds, each walk excuses the two
+-- Where the test holds, each walk excuses the two.
 pub excuses : (g : Graph) (has_stop : Place → Bool) (es : List EarlierSlot) (j : Place) (n : ℕ) (e : EarlierSlot) (guard other : ℕ) (w : Walk) → IsWindow g has_stop es j → IsAt es n e → excused_by e guard other ≡ true → IsThrough g has_stop e.place j w → IsExcused g has_stop w e.place guard other
 excuses g has_stop es j n e guard other w win at holds through =
     let both = and_parts (pairs_of e.known guard other) (not (has_bit e.written guard)) holds in

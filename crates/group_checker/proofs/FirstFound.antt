@@ -29,7 +29,7 @@ use Rattle.group_checker.specs.Broken.{broken_on, is_broken, violations_by, viol
 use Rattle.group_checker.proofs.SetLists.{in_each, in_resources, from_resources}
 use Rattle.group_checker.proofs.Rising.{precedes_by_first}
 
--- a set without a resource has none
+-- A set without a resource has none.
 no_resource : (s : ResourceSet) (q : Resource) → length (resources_in s) ≡ 0 → has_resource s q ≡ false
 no_resource s q none = elim (cases_Bool (has_resource s q)) [
   | inl t ↦ (let (k, l, e) = in_resources s q t in absurd (omega (arith, l, none)))
@@ -44,7 +44,7 @@ some_resource s some = of (resources_in s) refl
     of [] e = absurd (some (ap (length {A = Resource}) e))
     of (q ∷ qs) e = (q, from_resources s q (subst (λ (l : List Resource). Contains l q) (sym e) (head_in q qs)))
 
--- no rule is broken where no set of a rule has a resource
+-- No rule is broken where no set of a rule has a resource.
 pub nothing_broken : (b : Broken) → ((rule : Rule) → length (resources_in (broken_on b rule)) ≡ 0) → (v : Violation) → is_broken b v ≡ false
 nothing_broken b none v = no_resource (broken_on b v.rule) v.resource (none v.rule)
 
@@ -86,17 +86,17 @@ broken_by_counts b raw waw war63 alloc clear q r s t u none e = by_test none e
     by_test true e = (nothing_broken b (none_of (let z : raw + waw + war63 + alloc + clear ≡ 0 = grind (arith, nat_tests) in z)), tt)
     by_test false e = (tt, some_of (λ z. true≢false (sym (eq-eqb _ _ z) ∙ e)))
 
--- the first element of two lists in a row
+-- The first element of two lists in a row.
 pub first_append : {A : Type 0} (xs ys : List A) → slice_get (xs ++ ys) 0 ≡ option_or (slice_get xs 0) (slice_get ys 0)
 first_append [] ys = refl
 first_append (x ∷ xs) ys = refl
 
--- an empty list has no first element
+-- An empty list has no first element.
 pub none_first : {A : Type 0} (xs : List A) → length xs ≡ 0 → slice_get xs 0 ≡ None
 none_first [] e = refl
 none_first (x ∷ xs) e = cc
 
--- the first violation of a rule is that on the first resource
+-- The first violation of a rule is that on the first resource.
 pub first_violation_by : (first second : Place) (rule : Rule) (resources : ResourceSet) → slice_get (violations_by first second rule resources) 0 ≡ option_map (λ q. record { second = second; first = first; rule = rule; resource = q }) (slice_get (resources_in resources) 0)
 unfolding violations_by
 first_violation_by first second rule resources = slice_get-map (λ q. record { second = second; first = first; rule = rule; resource = q }) (resources_in resources) 0
@@ -116,12 +116,12 @@ pub record IsFirstOf (P : Violation → Type 0) (v : Violation) : Type 0 where
   pub has : P v
   pub first : (w : Violation) → P w → (v ≡ w) ⊎ Precedes v w
 
--- the first violation of a rising list comes before the others
+-- The first violation of a rising list comes before the others.
 first_precedes : (x w : Violation) (xs : List Violation) → Rises (x ∷ xs) → Contains xs w → Precedes x w
 unfolding IsStrictlySortedBy
 first_precedes x w xs rises c = in_each (λ (y : Violation). compare x y ≡ Less) xs w rises.0 c
 
--- the first element of a rising list is the first of all
+-- The first element of a rising list is the first of all.
 pub first_listed : (P : Violation → Type 0) (all : List Violation) (r : Option Violation) → IsListOf P all → r ≡ slice_get all 0 → MatchOption r ((v : Violation) → P v → ⊥) (λ v. IsFirstOf P v)
 first_listed P all r list e = subst (λ (o : Option Violation). MatchOption o ((v : Violation) → P v → ⊥) (λ v. IsFirstOf P v)) (sym e) (of all list)
   where
@@ -132,20 +132,20 @@ first_listed P all r list e = subst (λ (o : Option Violation). MatchOption o ((
       first = λ w has. elim (cases_in x w xs (list.has w has)) [ inl same ↦ inl same | inr c ↦ inr (first_precedes x w xs list.rises c) ];
     }
 
--- a pair of slots is violated where something is broken
+-- A pair of slots is violated where something is broken.
 pub pair_found : (g : Graph) (has_stop : Place → Bool) (es : List EarlierSlot) (j : Place) (n : ℕ) (e : EarlierSlot) (b : Broken) → IsAt es n e → AreBroken g has_stop es n j b → (v : Violation) → is_broken b v ≡ true → IsPairViolated g has_stop es n j
 pair_found g has_stop es j n e b at broken v is =
     let found : Violation = record { second = j; first = e.place; rule = v.rule; resource = v.resource } in
     let nth : IsNthPair es n j found = record { slot = e; at = at; pair = (refl, refl) } in
     (found, nth, broken.only found nth is)
 
--- by the test that nothing is
+-- By the test that nothing is.
 pub pair_tested : (g : Graph) (has_stop : Place → Bool) (es : List EarlierSlot) (j : Place) (n : ℕ) (e : EarlierSlot) (b : Broken) (nothing : Bool) → IsAt es n e → AreBroken g has_stop es n j b
     → OnTrue nothing ((v : Violation) → is_broken b v ≡ false) → OnFalse nothing ((v : Violation) × (is_broken b v ≡ true)) → IsTrue (not nothing) ↔ IsPairViolated g has_stop es n j
 pair_tested g has_stop es j n e b true at broken all some = (λ h. absurd cc, λ x. absurd (true≢false (sym (broken.has x.0 x.1 x.2) ∙ all x.0)))
 pair_tested g has_stop es j n e b false at broken all some = (λ h. pair_found g has_stop es j n e b at broken some.0 some.1, λ x. refl)
 
--- the first violation of a pair of slots
+-- The first violation of a pair of slots.
 pub pair_first : (g : Graph) (has_stop : Place → Bool) (es : List EarlierSlot) (j : Place) (n : ℕ) (all : List Violation) (r : Option Violation) → IsListOf (λ v. IsNthPair es n j v × ViolatesIn g has_stop v) all → r ≡ slice_get all 0
     → MatchOption r (¬ IsPairViolated g has_stop es n j) (λ v. IsFirstOfPair g has_stop es n j v)
 pair_first g has_stop es j n all r list e = of r (first_listed (λ v. IsNthPair es n j v × ViolatesIn g has_stop v) all r list e)
@@ -161,21 +161,21 @@ pub record IsOfSlot (es : List EarlierSlot) (j : Place) (v : Violation) : Type 0
   pub short : index < length es
   pub pair : IsNthPair es index j v
 
--- each violation with the slot under way is of a slot of the window
+-- Each violation with the slot under way is of a slot of the window.
 pub of_window : (g : Graph) (has_stop : Place → Bool) (es : List EarlierSlot) (j : Place) (v : Violation) → IsWindow g has_stop es j → ViolatesIn g has_stop v → v.second ≡ j → IsOfSlot es j v
 of_window g has_stop es j v win x is =
     let has = win.all x.walk (record { walks = x.there.walks; ends = x.there.ends ∙ is }) v.first x.inside in
     record { index = has.index; short = has.at.short; pair = record { slot = has.slot; at = has.at; pair = (sym has.is, is) } }
 
--- a pair that is violated violates at the place
+-- A pair that is violated violates at the place.
 pub pair_violates : (g : Graph) (has_stop : Place → Bool) (es : List EarlierSlot) (j : Place) (n : ℕ) → IsPairViolated g has_stop es n j → IsViolatedAt g has_stop j
 pair_violates g has_stop es j n x = let nth = x.1 in (x.0, x.2, nth.pair.1)
 
--- no pair violates, and so none does at the place
+-- No pair violates, and so none does at the place.
 pub none_violates : (g : Graph) (has_stop : Place → Bool) (es : List EarlierSlot) (j : Place) → IsWindow g has_stop es j → ((m : ℕ) → m < length es → ¬ IsPairViolated g has_stop es m j) → ¬ IsViolatedAt g has_stop j
 none_violates g has_stop es j win none (v, x, is) = let o = of_window g has_stop es j v win x is in none o.index o.short (v, o.pair, x)
 
--- the first violation of the first pair that is violated is the first at the place
+-- The first violation of the first pair that is violated is the first at the place.
 pub first_at : (g : Graph) (has_stop : Place → Bool) (es : List EarlierSlot) (j : Place) (n : ℕ) (v : Violation) → IsWindow g has_stop es j → ((m : ℕ) → m < n → ¬ IsPairViolated g has_stop es m j) → IsFirstOfPair g has_stop es n j v → IsFirstAt g has_stop j v
 first_at g has_stop es j n v win none is = record {
   violates = is.violates;

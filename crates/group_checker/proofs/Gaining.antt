@@ -35,11 +35,11 @@ gains_like old new P Q to from g = record {
   only = λ v c. elim (g.only v c) [ inl d ↦ inl d | inr p ↦ inr (to v p) ];
 }
 
--- what nothing has gains nothing
+-- What nothing has gains nothing.
 pub gains_nothing : (b : Broken) (P : Violation → Type 0) → ((v : Violation) → P v → ⊥) → Gains b b P
 gains_nothing b P never = record { keeps = λ v c. c; has = λ v p. absurd (never v p); only = λ v c. inl c }
 
--- two steps gain what either gains
+-- Two steps gain what either gains.
 pub gains_both : (old mid new : Broken) (P Q R : Violation → Type 0) → ((v : Violation) → P v → R v) → ((v : Violation) → Q v → R v) → ((v : Violation) → R v → P v ⊎ Q v) → Gains old mid P → Gains mid new Q → Gains old new R
 gains_both old mid new P Q R p q r a b = record {
   keeps = λ v c. b.keeps v (a.keeps v c);
@@ -47,7 +47,7 @@ gains_both old mid new P Q R p q r a b = record {
   only = λ v c. elim (b.only v c) [ inl d ↦ elim (a.only v d) [ inl e ↦ inl e | inr x ↦ inr (p v x) ] | inr y ↦ inr (q v y) ];
 }
 
--- accesses of two resources never clash, and of one by their kinds
+-- Accesses of two resources never clash, and of one by their kinds.
 by_kinds : (s : Bool) (c : Option Rule) (rule : Rule) → cond s c None ≡ Some rule → c ≡ Some rule
 by_kinds true c rule e = e
 by_kinds false c rule e = absurd cc
@@ -72,7 +72,7 @@ sets_found e a b v h = record {
   stays = (λ i. may_be_excused v.rule && excused_by e (h.of_first.guard i) (h.of_second.guard i)) ∙ h.stays;
 }
 
--- what is noted is all that accesses of two sets find
+-- What is noted is all that accesses of two sets find.
 pub one_found : (e : EarlierSlot) (a b : AccessSet) (rule : Rule) (common : ResourceSet) → clash_of a.kind b.kind ≡ Some rule → (may_be_excused rule && excused_by e a.guard b.guard) ≡ false
     → ((q : Resource) → has_resource common q ≡ (has_resource a.resources q && has_resource b.resources q))
     → (old new : Broken) → Gains old new (λ v. (v.rule ≡ rule) × (has_resource common v.resource ≡ true)) → Gains old new (Finds e (IsInSet a) (IsInSet b))
@@ -125,7 +125,7 @@ found_of e P Q R S v h r s = record {
   stays = h.stays;
 }
 
--- what is found with accesses of two sorts is found with all, as the second ones and as the first
+-- What is found with accesses of two sorts is found with all, as the second ones and as the first.
 pub second_joined : (e : EarlierSlot) (T P Q R : Access → Type 0) (old mid new : Broken) → AreJoined P Q R → Gains old mid (Finds e T P) → Gains mid new (Finds e T Q) → Gains old new (Finds e T R)
 second_joined e T P Q R old mid new j =
     gains_both old mid new (Finds e T P) (Finds e T Q) (Finds e T R)
@@ -140,7 +140,7 @@ first_joined e T P Q R old mid new j =
     (λ v h. found_of e Q T R T v h (j.taken h.first h.of_first) h.of_second)
     (λ v h. elim (j.split h.first h.of_first) [ inl c ↦ inl (found_of e R T P T v h c h.of_second) | inr i ↦ inr (found_of e R T Q T v h i h.of_second) ])
 
--- what is found with the set of one access is found with it
+-- What is found with the set of one access is found with it.
 pub second_alone : (e : EarlierSlot) (T : Access → Type 0) (a : Access) (s : AccessSet) (old new : Broken) → IsSetOf (a ∷ []) s → Gains old new (Finds e T (IsInSet s)) → Gains old new (Finds e T (Contains (a ∷ [])))
 second_alone e T a s old new set =
     gains_like old new (Finds e T (IsInSet s)) (Finds e T (Contains (a ∷ [])))
@@ -153,7 +153,7 @@ first_alone e T a s old new set =
     (λ v h. found_of e (IsInSet s) T (Contains (a ∷ [])) T v h (set.only h.first h.of_first) h.of_second)
     (λ v h. found_of e (Contains (a ∷ [])) T (IsInSet s) T v h (set.has h.first h.of_first) h.of_second)
 
--- nothing is found with an access of a resource that a set lacks
+-- Nothing is found with an access of a resource that a set lacks.
 pub lacks : (e : EarlierSlot) (a : AccessSet) (b : Access) (v : Violation) → has_resource a.resources b.resource ≡ false → ¬ Finds e (IsInSet a) (Contains (b ∷ [])) v
 lacks e a b v none h = elim (cases_in b h.second [] h.of_second) [
   | inl same ↦ (let on : h.first.resource ≡ b.resource = h.first_on ∙ sym h.second_on ∙ ap (λ (x : Access). x.resource) (sym same) in
@@ -161,13 +161,13 @@ lacks e a b v none h = elim (cases_in b h.second [] h.of_second) [
   | inr n ↦ not_in_none h.second n
 ]
 
--- accesses that clash may clash
+-- Accesses that clash may clash.
 pub apart_clash : (firsts seconds : List Access) (a b : Access) (rule : Rule) → may_clash firsts seconds ≡ false → Contains firsts a → Contains seconds b → clash a b ≡ Some rule → ⊥
 apart_clash firsts seconds a b rule apart of_first of_second broken =
     let second : list_any (λ y. is_some (clash a y)) seconds ≡ true = any_of (λ y. is_some (clash a y)) seconds b of_second (ap is_some broken) in
     true≢false (sym (any_of (λ x. list_any (λ y. is_some (clash x y)) seconds) firsts a of_first second) ∙ apart)
 
--- what is noted of the rules on slots
+-- What is noted of the rules on slots.
 pub slots_found : (e : EarlierSlot) (s : Slot) (first : Bool) → first ≡ is_alloc s.action → (old mid new : Broken)
     → Gains old mid (λ v. (first ≡ true) × (v.rule ≡ AllocFirst) × (v.resource ≡ Cfm)) → Gains mid new (λ v. (e.clears ≡ true) × (v.rule ≡ ClearLast) × (v.resource ≡ Cfm)) → Gains old new (IsSlotRule e s)
 slots_found e s first is old mid new a b =

@@ -40,7 +40,7 @@ from_by first second rule resources v c =
     let (q, m, e) = from_map (violation second first rule) (resources_in resources) v c in
     subst (IsBy first second rule resources) e (record { pair = (refl, refl); rule_is = refl; has = from_resources resources q m })
 
--- as many as the set has resources
+-- As many as the set has resources.
 pub by_length : (first second : Place) (rule : Rule) (resources : ResourceSet) → length (violations_by first second rule resources) ≡ length (resources_in resources)
 unfolding violations_by
 by_length first second rule resources = length-map (resources_in resources) (violation second first rule)
@@ -54,7 +54,7 @@ module _ (first second : Place) (b : Broken) where
   abbrev by : Rule → List Violation
   by rule = violations_by first second rule (broken_on b rule)
 
-  -- rules in order
+  -- Rules in order.
   earlier : (r s : Rule) → rule_cmp r s ≡ Less → (v w : Violation) → Contains (by r) v → Contains (by s) w → Precedes v w
   earlier r s h v w c d =
       let x = from_by first second r (broken_on b r) v c in
@@ -62,7 +62,7 @@ module _ (first second : Place) (b : Broken) where
       precedes_by_rule v w (x.pair.1 ∙ sym y.pair.1) (x.pair.0 ∙ sym y.pair.0)
       (subst (λ (t : Rule). rule_cmp t w.rule ≡ Less) (sym x.rule_is) (subst (λ (t : Rule). rule_cmp r t ≡ Less) (sym y.rule_is) h))
 
-  -- the rules up to a later one
+  -- The rules up to a later one.
   up_to : (xs : List Violation) (r s : Rule) → rule_cmp r s ≡ Less → ((v w : Violation) → Contains xs v → Contains (by s) w → Precedes v w) → (v w : Violation) → Contains (xs ++ by r) v → Contains (by s) w → Precedes v w
   up_to xs r s h before v w c d = elim (Contains-append_cases xs (by r) v c) [ inl k ↦ before v w k d | inr k ↦ earlier r s h v w k d ]
 
@@ -120,7 +120,7 @@ module _ (first second : Place) (b : Broken) where
     | inr k ↦ from_rule v ClearLast k
   ]
 
-  -- the list is the rising list of what is broken
+  -- The list is the rising list of what is broken.
   pub listed : IsListOf (λ v. IsPair first second v × (is_broken b v ≡ true)) (violations_of first second b)
   listed = record {
     rises = rises;

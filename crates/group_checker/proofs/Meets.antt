@@ -16,18 +16,18 @@ past_insn_within : (o : Option Insn) (f h : Pairs) → IsWithin f h → IsWithin
 past_insn_within None f h w = w
 past_insn_within (Some insn) f h w = pairs_after-within f h insn Falls w
 
--- who knows more before an instruction knows more past it
+-- Who knows more before an instruction knows more past it.
 past_within : (g : Graph) (j : Place) (f h : Pairs) → IsWithin f h → IsWithin (pairs_past_in g j Falls f) (pairs_past_in g j Falls h)
 past_within g j f h w =
     subst (λ (a : Pairs). IsWithin a (pairs_past_in g j Falls h)) (sym (past_is g j Falls f))
     (subst (IsWithin (pairs_past_insn (insn_in g j) Falls f)) (sym (past_is g j Falls h)) (past_insn_within (insn_in g j) f h w))
 
--- the walks of the new set are those of the old one, gone on past the slot at j
+-- The walks of the new set are those of the old one, gone on past the slot at j.
 pub record GoOn (g : Graph) (j : Place) (IsOld IsNew : Walk → Type 0) : Type 0 where
   pub on : (w : Walk) → IsOld w → (v : Walk) × IsNew v × (facts_in g v ≡ pairs_past_in g j Falls (facts_in g w))
   pub back : (v : Walk) → IsNew v → (w : Walk) × IsOld w × (facts_in g v ≡ pairs_past_in g j Falls (facts_in g w))
 
--- some walk lacks the pair past the slot too
+-- Some walk lacks the pair past the slot too.
 lacks_past : (g : Graph) (o : Option Insn) (IsOld : Walk → Type 0) (f : Pairs) (x y : ℕ) → IsMeetOf g IsOld f → pairs_past_insn o Falls f x y ≡ false → (w : Walk) × IsOld w × (pairs_past_insn o Falls (facts_in g w) x y ≡ false)
 lacks_past g None IsOld f x y meet h = meet.exact x y h
 lacks_past g (Some insn) IsOld f x y meet h = by_why (why_missing f insn Falls x y h)
@@ -36,7 +36,7 @@ lacks_past g (Some insn) IsOld f x y meet h = by_why (why_missing f insn Falls x
     by_why (whatever all) = let (w, is) = meet.reached in (w, is, all (facts_in g w))
     by_why (since a b n more) = let (w, is, m) = meet.exact a b n in (w, is, more (facts_in g w) m)
 
--- what is known on all of the old walks, past the slot, is what is known on all of the new ones
+-- What is known on all of the old walks, past the slot, is what is known on all of the new ones.
 pub meet_past : (g : Graph) (j : Place) (IsOld IsNew : Walk → Type 0) (f : Pairs) → GoOn g j IsOld IsNew → IsMeetOf g IsOld f → IsMeetOf g IsNew (pairs_past_in g j Falls f)
 meet_past g j IsOld IsNew f go meet = record {
   reached = let (w, is) = meet.reached in let (v, new, e) = go.on w is in (v, new);
@@ -46,6 +46,6 @@ meet_past g j IsOld IsNew f go meet = record {
       let (v, new, e) = go.on w is in (v, new, ap (λ (q : Pairs). q x y) (e ∙ past_is g j Falls (facts_in g w)) ∙ m);
 }
 
--- the meet at a place is that of all walks that end there
+-- The meet at a place is that of all walks that end there.
 pub meet_at : (g : Graph) (j : Place) (f : Pairs) → IsMeetIn g j f → IsMeetOf g (EndsIn g j) f
 meet_at g j f meet = record { reached = meet.reached; sound = meet.sound; exact = meet.exact }

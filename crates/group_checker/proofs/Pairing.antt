@@ -30,7 +30,7 @@ use Rattle.group_checker.proofs.EarlierSlots.{at_once, earlier_at}
 use Rattle.group_checker.proofs.Excusing.{opens, excuses}
 use Rattle.group_checker.proofs.Slots.{slot_allocates}
 
--- a clash is by one of three rules
+-- A clash is by one of three rules.
 of_three : (a b c d : Bool) (P : Rule → Type 0) (rule : Rule) → cond a (cond b (Some Raw) (cond c (Some Waw) (cond d (Some War63) None))) None ≡ Some rule → P Raw → P Waw → P War63 → P rule
 of_three true true c d P rule e x y z = subst P (let q : Raw ≡ rule = cc in q) x
 of_three true false true d P rule e x y z = subst P (let q : Waw ≡ rule = cc in q) y
@@ -38,7 +38,7 @@ of_three true false false true P rule e x y z = subst P (let q : War63 ≡ rule 
 of_three true false false false P rule e x y z = absurd cc
 of_three false b c d P rule e x y z = absurd cc
 
--- the rules by which accesses clash
+-- The rules by which accesses clash.
 abbrev IsClashRule : Rule → Type 0
 IsClashRule Raw = Unit {0}
 IsClashRule Waw = Unit {0}
@@ -46,12 +46,12 @@ IsClashRule War63 = Unit {0}
 IsClashRule AllocFirst = ⊥
 IsClashRule ClearLast = ⊥
 
--- accesses clash by one of these
+-- Accesses clash by one of these.
 clash_rule : (a b : Access) (rule : Rule) → clash a b ≡ Some rule → IsClashRule rule
 unfolding clash_of
 clash_rule a b rule e = of_three (is_resource a.resource b.resource) (is_raw a.kind b.kind) (is_waw a.kind b.kind) (is_war63 a.kind b.kind) IsClashRule rule e tt tt tt
 
--- accesses that clash break the rule, if they are not excused where they could be
+-- Accesses that clash break the rule, if they are not excused where they could be.
 breaks_by_clash : (g : Graph) (has_stop : Place → Bool) (w : Walk) (i : Place) (rule : Rule) (q : Resource) (c : Clashes g i (end_of w) rule q) → (may_be_excused rule ≡ true → ¬ IsExcused g has_stop w i c.first.guard c.second.guard) → Breaks g has_stop w i rule q
 breaks_by_clash g has_stop w i Raw q c open_on = record { clashes = c; stays = open_on refl }
 breaks_by_clash g has_stop w i Waw q c open_on = record { clashes = c; stays = open_on refl }
@@ -59,7 +59,7 @@ breaks_by_clash g has_stop w i War63 q c open_on = c
 breaks_by_clash g has_stop w i AllocFirst q c open_on = absurd (clash_rule c.first c.second AllocFirst c.clash)
 breaks_by_clash g has_stop w i ClearLast q c open_on = absurd (clash_rule c.first c.second ClearLast c.clash)
 
--- what is broken on a walk through the first slot is a violation
+-- What is broken on a walk through the first slot is a violation.
 violates_by : (g : Graph) (has_stop : Place → Bool) (i j : Place) (v : Violation) (w : Walk) → IsPair i j v → IsThrough g has_stop i j w → Breaks g has_stop w i v.rule v.resource → ViolatesIn g has_stop v
 violates_by g has_stop i j v w is through breaks = record {
   walk = w;
@@ -74,7 +74,7 @@ record BrokenOn (g : Graph) (has_stop : Place → Bool) (i j : Place) (v : Viola
   through : IsThrough g has_stop i j walk
   breaks : Breaks g has_stop walk i v.rule v.resource
 
--- of a pair of slots it is broken on a walk through the first
+-- Of a pair of slots it is broken on a walk through the first.
 broken_on : (g : Graph) (has_stop : Place → Bool) (i j : Place) (v : Violation) → IsPair i j v → ViolatesIn g has_stop v → BrokenOn g has_stop i j v
 broken_on g has_stop i j v is x = record {
   walk = x.walk;
@@ -82,7 +82,7 @@ broken_on g has_stop i j v is x = record {
   breaks = subst (λ (k : Place). Breaks g has_stop x.walk k v.rule v.resource) is.0 x.breaks;
 }
 
--- some walk leaves what is found unexcused
+-- Some walk leaves what is found unexcused.
 record Unexcused (g : Graph) (has_stop : Place → Bool) (i j : Place) (rule : Rule) (guard other : ℕ) : Type 0 where
   walk : Walk
   through : IsThrough g has_stop i j walk
@@ -95,11 +95,11 @@ unexcused g has_stop es j n e rule guard other win at fails = elim (and_cases (m
   | inr q ↦ (let o = opens g has_stop es j n e guard other win at q in record { walk = o.walk; through = o.through; stays = λ may. o.stays })
 ]
 
--- what is found of an earlier slot and the one at a place
+-- What is found of an earlier slot and the one at a place.
 abbrev FindsAt : Graph → Place → EarlierSlot → Violation → Type 0
 FindsAt g j e v = Finds e (Contains e.masks) (Contains (accesses_at g j)) v
 
--- what is found is broken on a walk
+-- What is found is broken on a walk.
 pub found_violates : (g : Graph) (has_stop : Place → Bool) (es : List EarlierSlot) (j : Place) (n : ℕ) (e : EarlierSlot) (v : Violation) → IsWindow g has_stop es j → IsAt es n e → IsPair e.place j v → FindsAt g j e v → ViolatesIn g has_stop v
 found_violates g has_stop es j n e v win at is c =
     let o = unexcused g has_stop es j n e v.rule c.first.guard c.second.guard win at c.stays in
@@ -114,11 +114,11 @@ found_violates g has_stop es j n e v win at is c =
       clash = c.clash;
     }) o.stays)
 
--- accesses of one that may not clash are never found
+-- Accesses of one that may not clash are never found.
 apart_finds : (g : Graph) (j : Place) (e : EarlierSlot) (v : Violation) → may_clash e.masks (accesses_at g j) ≡ false → FindsAt g j e v → ⊥
 apart_finds g j e v apart c = apart_clash e.masks (accesses_at g j) c.first c.second v.rule apart c.of_first c.of_second c.clash
 
--- the last slot of the window is the latest of the group on each walk through it
+-- The last slot of the window is the latest of the group on each walk through it.
 latest : (g : Graph) (has_stop : Place → Bool) (es : List EarlierSlot) (j : Place) (n : ℕ) (e : EarlierSlot) (w : Walk) → IsWindow g has_stop es j → IsAt es n e → n + 1 ≡ length es → IsThrough g has_stop e.place j w → IsLatest (group_since has_stop w) e.place
 latest g has_stop es j n e w win at end through =
     let from = comes_from g has_stop w e.place through.there.walks through.inside in
@@ -144,7 +144,7 @@ is_last g has_stop es j n e w win at through is = elim (cases_lt (n + 1) (length
         let one : b.place ≡ e.place = one_before g b.place e.place j (win.last m b there (omega arith)) edge in
         subst (IsBefore e.place) one (win.rises n m e b at there (omega arith))
 
--- the rules on slots break on each walk through the first
+-- The rules on slots break on each walk through the first.
 pub slot_violates : (g : Graph) (has_stop : Place → Bool) (es : List EarlierSlot) (j : Place) (s : Slot) (n : ℕ) (e : EarlierSlot) (v : Violation) → IsWindow g has_stop es j → Describes g has_stop j s → IsAt es n e → n + 1 ≡ length es → IsPair e.place j v → IsSlotRule e s v → ViolatesIn g has_stop v
 slot_violates g has_stop es j s n e v win here_at at end is rule =
     let carried = win.carried n e at in
@@ -160,7 +160,7 @@ slot_violates g has_stop es j s n e v win here_at at end is rule =
     broken w through here (inl r) = of w AllocFirst r.rule r.resource (subst (λ (k : Place). allocates_at g k ≡ true) (sym through.there.ends) (slot_allocates g has_stop j s here_at ∙ r.allocates), here, refl)
     broken w through here (inr r) = of w ClearLast r.rule r.resource (sym (win.carried n e at).clears ∙ r.clears, here, refl)
 
--- a clash on a walk is found
+-- A clash on a walk is found.
 finds_clash : (g : Graph) (has_stop : Place → Bool) (es : List EarlierSlot) (j : Place) (n : ℕ) (e : EarlierSlot) (v : Violation) (w : Walk) → IsWindow g has_stop es j → IsAt es n e → IsThrough g has_stop e.place j w → (c : Clashes g e.place (end_of w) v.rule v.resource) → (may_be_excused v.rule && excused_by e c.first.guard c.second.guard) ≡ false → FindsAt g j e v
 finds_clash g has_stop es j n e v w win at through c stays =
     let carried = win.carried n e at in
@@ -175,7 +175,7 @@ finds_clash g has_stop es j n e v w win at through c stays =
       stays = stays;
     }
 
--- what is broken on a walk is found
+-- What is broken on a walk is found.
 pub violation_found : (g : Graph) (has_stop : Place → Bool) (es : List EarlierSlot) (j : Place) (s : Slot) (n : ℕ) (e : EarlierSlot) (v : Violation) → IsWindow g has_stop es j → Describes g has_stop j s → IsAt es n e → IsPair e.place j v → ViolatesIn g has_stop v → FindsAt g j e v ⊎ ((n + 1 ≡ length es) × IsSlotRule e s v)
 violation_found g has_stop es j s n e v win here_at at is x = let b = broken_on g has_stop e.place j v is x in by_rule b.walk b.through v.rule refl b.breaks
   where
@@ -199,12 +199,12 @@ violation_found g has_stop es j s n e v win here_at at is x = let b = broken_on 
     by_rule w through AllocFirst same b = inr (is_last g has_stop es j n e w win at through b.1, inl (record { rule = same; allocates = sym (slot_allocates g has_stop j s here_at) ∙ subst (λ (k : Place). allocates_at g k ≡ true) through.there.ends b.0; resource = b.2 }))
     by_rule w through ClearLast same b = inr (is_last g has_stop es j n e w win at through b.1, inr (record { rule = same; clears = (win.carried n e at).clears ∙ b.0; resource = b.2 }))
 
--- no rule on slots is broken where the second is no `alloc` and the first no `clrrrb`
+-- No rule on slots is broken where the second is no `alloc` and the first no `clrrrb`.
 pub no_slot_rule : (e : EarlierSlot) (s : Slot) (v : Violation) → e.clears ≡ false → is_alloc s.action ≡ false → ¬ IsSlotRule e s v
 no_slot_rule e s v clears allocates (inl r) = true≢false (sym r.allocates ∙ allocates)
 no_slot_rule e s v clears allocates (inr r) = true≢false (sym r.clears ∙ clears)
 
--- a pair of slots whose accesses may not clash breaks the rules on slots or none
+-- A pair of slots whose accesses may not clash breaks the rules on slots or none.
 pub apart_pair : (g : Graph) (has_stop : Place → Bool) (es : List EarlierSlot) (j : Place) (s : Slot) (seconds : List Access) (n : ℕ) (e : EarlierSlot) (v : Violation) → HasWindow g has_stop es j s seconds → IsAt es n e
     → may_clash e.masks seconds ≡ false → (n + 1 ≡ length es → ¬ IsSlotRule e s v) → IsNthPair es n j v → ¬ ViolatesIn g has_stop v
 apart_pair g has_stop es j s seconds n e v u at apart no_rule nth x =
@@ -214,7 +214,7 @@ apart_pair g has_stop es j s seconds n e v u at apart no_rule nth x =
       | inr slots ↦ no_rule slots.0 slots.1
     ]
 
--- what a pair of slots breaks is what its accesses find, and if the slots follow each other, what the rules on slots say
+-- What a pair of slots breaks is what its accesses find, and if the slots follow each other, what the rules on slots say.
 pub pair_all : (g : Graph) (has_stop : Place → Bool) (es : List EarlierSlot) (j : Place) (s : Slot) (seconds : List Access) (n : ℕ) (e : EarlierSlot) (none some all : Broken) → HasWindow g has_stop es j s seconds → IsAt es n e
     → ((v : Violation) → is_broken none v ≡ false) → Gains none some (Finds e (Contains e.masks) (Contains seconds)) → Gains some all (λ v. (n + 1 ≡ length es) × IsSlotRule e s v) → AreBroken g has_stop es n j all
 pair_all g has_stop es j s seconds n e none some all u at nothing a b = record {

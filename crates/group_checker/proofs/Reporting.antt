@@ -38,19 +38,19 @@ use Rattle.group_checker.proofs.ListedViolations.{listed}
 use Rattle.order_laws.proofs.Falling.{before_trans, number_rises, place_cases, next_after, comes_from}
 use Rattle.group_checker.proofs.Rising.{precedes_by_second, precedes_by_first, rises_append, rises_none}
 
--- what is cut is cut again
+-- What is cut is cut again.
 pub take_again : {A : Type 0} (n : ℕ) (xs ys : List A) → take n (take n xs ++ ys) ≡ take n (xs ++ ys)
 take_again zero xs ys = refl
 take_again (suc n) [] ys = refl
 take_again (suc n) (x ∷ xs) ys = ap (λ l. x ∷ l) (take_again n xs ys)
 
--- a list that is filled up
+-- A list that is filled up.
 pub take_room : {A : Type 0} (n : ℕ) (xs ys zs : List A) → length xs ≤ n → zs ≡ xs ++ take (n - length xs) ys → zs ≡ take n (xs ++ ys)
 take_room n xs ys zs l e =
     let all : length xs + (n - length xs) ≡ n = omega arith in
     e ∙ sym (take-append-add xs ys (n - length xs)) ∙ ap (λ m. take m (xs ++ ys)) all
 
--- one more is shown where there is room
+-- One more is shown where there is room.
 pub shown_more : {A : Type 0} (n : ℕ) (xs zs : List A) (x : A) → length xs < n → zs ≡ xs ++ x ∷ [] → zs ≡ take n (xs ++ x ∷ [])
 shown_more n xs zs x l e = e ∙ sym (take_all n (xs ++ x ∷ []) (omega (arith, length-append xs (x ∷ []))))
 
@@ -58,7 +58,7 @@ shown_more n xs zs x l e = e ∙ sym (take_all n (xs ++ x ∷ []) (omega (arith,
 pub shown_full : {A : Type 0} (n : ℕ) (xs : List A) (x : A) → length xs ≤ n → n ≤ length xs → xs ≡ take n (xs ++ x ∷ [])
 shown_full n xs x l m = take_room n xs (x ∷ []) xs l (let none : n - length xs ≡ 0 = omega arith in rw none (sym (append-nil xs)))
 
--- no more
+-- No more.
 pub none_more : {A : Type 0} (n : ℕ) (xs : List A) → length xs ≤ n → xs ≡ take n (xs ++ [])
 none_more n xs l = take_room n xs [] xs l (none (n - length xs))
   where
@@ -66,16 +66,16 @@ none_more n xs l = take_room n xs [] xs l (none (n - length xs))
     none zero = sym (append-nil xs)
     none (suc k) = sym (append-nil xs)
 
--- what is shown, and more of it
+-- What is shown, and more of it.
 pub shown_again : {A : Type 0} (n : ℕ) (old xs ys mid new : List A) → mid ≡ take n (old ++ xs) → new ≡ take n (mid ++ ys) → new ≡ take n (old ++ (xs ++ ys))
 shown_again n old xs ys mid new a b =
     b ∙ ap (λ l. take n (l ++ ys)) a ∙ take_again n (old ++ xs) ys ∙ ap (λ l. take n l) (append_assoc old xs ys)
 
--- one more image of a list
+-- One more image of a list.
 pub map_more : {A B : Type 0} (g : A → B) (xs : List A) (k : ℕ) (d : A) → k < length xs → map g (take (k + 1) xs) ≡ map g (take k xs) ++ g (get_or xs k d) ∷ []
 map_more g xs k d short = ap (λ l. map g l) (take_more xs k d short) ∙ map-append g (take k xs) (get_or xs k d ∷ [])
 
--- what is shown of a rule
+-- What is shown of a rule.
 pub shown_by : (was old : List Violation) (found : List Resource) (resources : ResourceSet) (first second : Place) (rule : Rule) (new : List Violation) → was ≡ old → found ≡ resources_in resources
     → new ≡ take SHOWN_LIMIT (was ++ map (λ q. record { second = second; first = first; rule = rule; resource = q }) found) → new ≡ take SHOWN_LIMIT (old ++ violations_by first second rule resources)
 unfolding violations_by
@@ -83,17 +83,17 @@ shown_by was old found resources first second rule new a b e =
     e ∙ ap (λ (l : List Violation). take SHOWN_LIMIT (l ++ map (λ q. record { second = second; first = first; rule = rule; resource = q }) found)) a
     ∙ ap (λ (l : List Resource). take SHOWN_LIMIT (old ++ map (λ q. record { second = second; first = first; rule = rule; resource = q }) l)) b
 
--- once a hundred are shown, no more are
+-- Once a hundred are shown, no more are.
 pub shown_over : {A : Type 0} (n : ℕ) (xs ys : List A) → length xs ≤ n → n ≤ length xs → xs ≡ take n (xs ++ ys)
 shown_over n xs ys l m = take_room n xs ys xs l (let none : n - length xs ≡ 0 = omega arith in rw none (sym (append-nil xs)))
 
--- what is reported by one rule after the other
+-- What is reported by one rule after the other.
 pub record IsAdded (old new : Report) (found : List Violation) : Type 0 where
   pub few : length found ≤ RESOURCE_COUNT
   pub total : new.total ≡ old.total + length found
   pub shown : new.shown ≡ take SHOWN_LIMIT (old.shown ++ found)
 
--- of a list that is empty nothing is
+-- Of a list that is empty nothing is.
 pub none_added : (r : Report) (found : List Violation) → length r.shown ≤ SHOWN_LIMIT → length found ≡ 0 → IsAdded r r found
 none_added r [] l e = record { few = omega arith; total = omega arith; shown = none_more SHOWN_LIMIT r.shown l }
 none_added r (v ∷ vs) l e = cc
@@ -110,11 +110,11 @@ added_after old mid new xs ys bound a b = record {
   shown = shown_again SHOWN_LIMIT old.shown xs ys mid.shown new.shown a.shown b.shown;
 }
 
--- no more are shown than the limit
+-- No more are shown than the limit.
 pub shown_short : (n : ℕ) (r : List Violation) (all : List Violation) → r ≡ take n all → length r ≤ n
 shown_short n r all e = rw e (simp length-take (omega arith))
 
--- what is reported of all rules
+-- What is reported of all rules.
 pub all_added : (first second : Place) (b : Broken) (r r1 r2 r3 r4 r5 : Report)
     → IsAdded r r1 (violations_by first second Raw b.raw) → IsAdded r1 r2 (violations_by first second Waw b.waw) → IsAdded r2 r3 (violations_by first second War63 b.war63)
     → IsAdded r3 r4 (violations_by first second AllocFirst b.alloc_first) → IsAdded r4 r5 (violations_by first second ClearLast b.clear_last)
@@ -127,7 +127,7 @@ all_added first second b r r1 r2 r3 r4 r5 x1 x2 x3 x4 x5 =
     let four = added_after r r3 r4 ((violations_by first second Raw b.raw ++ violations_by first second Waw b.waw) ++ violations_by first second War63 b.war63) (violations_by first second AllocFirst b.alloc_first) (3 * RESOURCE_COUNT) three x4 in
     added_after r r4 r5 (((violations_by first second Raw b.raw ++ violations_by first second Waw b.waw) ++ violations_by first second War63 b.war63) ++ violations_by first second AllocFirst b.alloc_first) (violations_by first second ClearLast b.clear_last) (4 * RESOURCE_COUNT) four x5
 
--- a list of some violations is followed by one of later ones
+-- A list of some violations is followed by one of later ones.
 list_append : (P Q R : Violation → Type 0) (xs ys : List Violation) → ((v : Violation) → P v → R v) → ((v : Violation) → Q v → R v) → ((v : Violation) → R v → P v ⊎ Q v) → ((v w : Violation) → P v → Q w → Precedes v w) → IsListOf P xs → IsListOf Q ys → IsListOf R (xs ++ ys)
 list_append P Q R xs ys p q r before a b = record {
   rises = rises_append xs ys a.rises b.rises (λ v w c d. before v w (a.only v c) (b.only w d));
@@ -148,11 +148,11 @@ retold p r P Q bound more l to from u = record {
   small = omega (arith, u.small);
 }
 
--- a report with a wider bound
+-- A report with a wider bound.
 pub bounded : (p : Program) (r : Report) (P : Violation → Type 0) (bound more : ℕ) → bound ≤ more → HasReported p r P bound → HasReported p r P more
 bounded p r P bound more l u = retold p r P P bound more l (λ v x h. h) (λ v x h. h) u
 
--- pairs with an earlier first slot come before
+-- Pairs with an earlier first slot come before.
 pair_precedes : (p : Program) (es : List EarlierSlot) (j : Place) (n : ℕ) (v w : Violation) → IsWindow (over_program p) (is_stopped p.bundles) es j → IsEarlierPair es j n v → IsNthPair es n j w → Precedes v w
 pair_precedes p es j n v w win (inl h) k = precedes_by_second v w (subst (IsBefore v.second) (sym k.pair.1) h)
 pair_precedes p es j n v w win (inr h) k =
@@ -161,7 +161,7 @@ pair_precedes p es j n v w win (inr h) k =
     precedes_by_first v w (h.0 ∙ sym k.pair.1)
     (subst (λ (q : Place). IsBefore q w.first) has.is (subst (IsBefore has.slot.place) (sym k.pair.0) up))
 
--- the violations of one more pair of slots
+-- The violations of one more pair of slots.
 pub pair_reported : (p : Program) (old new : Report) (es : List EarlierSlot) (j : Place) (n bound : ℕ) (found : List Violation) → IsWindow (over_program p) (is_stopped p.bundles) es j → HasReported p old (IsEarlierPair es j n) bound → IsListOf (λ v. IsNthPair es n j v × Violates p v) found → length found ≤ pair_bound → new.total ≡ old.total + length found → new.shown ≡ take SHOWN_LIMIT (old.shown ++ found) → HasReported p new (IsEarlierPair es j (n + 1)) (bound + pair_bound)
 pair_reported p old new es j n bound found win r list few total shown = record {
   all = r.all ++ found;
@@ -189,7 +189,7 @@ pair_reported p old new es j n bound found win r list few total shown = record {
       | inr q ↦ inl (x, inr (e.0, record { has = e.1.has; below = omega (arith, e.1.below) }))
     ]
 
--- those of one pair of slots, told by what is broken
+-- Those of one pair of slots, told by what is broken.
 pub pair_listed : (g : Graph) (has_stop : Place → Bool) (es : List EarlierSlot) (j : Place) (n : ℕ) (e : EarlierSlot) (b : Broken) → IsAt es n e → AreBroken g has_stop es n j b → IsListOf (λ v. IsNthPair es n j v × ViolatesIn g has_stop v) (violations_of e.place j b)
 pair_listed g has_stop es j n e b at all =
     list_like (λ v. IsPair e.place j v × (is_broken b v ≡ true)) (λ v. IsNthPair es n j v × ViolatesIn g has_stop v) (violations_of e.place j b)
@@ -215,7 +215,7 @@ pair_apart p r es j n bound none u = retold p r (IsEarlierPair es j n) (IsEarlie
       | inr q ↦ inr (e.0, record { has = e.1.has; below = omega (arith, e.1.below) })
     ]
 
--- at the first slot of the window
+-- At the first slot of the window.
 pub none_of_second : (p : Program) (r : Report) (es : List EarlierSlot) (j : Place) (bound : ℕ) → HasReported p r (IsEarlier j) bound → HasReported p r (IsEarlierPair es j 0) bound
 none_of_second p r es j bound u = retold p r (IsEarlier j) (IsEarlierPair es j 0) bound bound (omega arith) (λ v x h. inl h) (λ v x h. of v h) u
   where
@@ -237,24 +237,24 @@ second_reported p r es j bound win u = retold p r (IsEarlierPair es j (length es
         let has = win.all x.walk (record { walks = x.there.walks; ends = x.there.ends ∙ h }) v.first x.inside in
         inr (h, record { has = has; below = has.at.short })
 
--- the second slot of a violation is a place
+-- The second slot of a violation is a place.
 second_is_place : (p : Program) (v : Violation) → Violates p v → IsPlaceOf p.bundles v.second
 second_is_place p v x =
     let from = comes_from (over_program p) (is_stopped p.bundles) x.walk v.first x.there.walks x.inside in
     subst (IsPlaceOf p.bundles) x.there.ends from.edge.lands
 
--- the places of a program have small numbers
+-- The places of a program have small numbers.
 pub number_small : (p : Program) (j : Place) → IsProgram p → IsPlaceOf p.bundles j → place_number j < place_bound
 number_small p j program is =
     let slot = slot_small p.bundles j is in
     let bundle = bundle_small p.bundles j is in
     omega (arith, program.counts.bundles)
 
--- the next place has a higher number
+-- The next place has a higher number.
 pub number_next : (p : Program) (j next : Place) → IsPlaceOf p.bundles j → next_of p.bundles j ≡ Some next → place_number j < place_number next
 number_next p j next is follows = number_rises j next (slot_small p.bundles j is) (next_after (over_program p) j next follows)
 
--- what comes before the next place is what came up to this one
+-- What comes before the next place is what came up to this one.
 pub next_reported : (p : Program) (r : Report) (j next : Place) (bound more : ℕ) → next_of p.bundles j ≡ Some next → bound ≤ more → HasReported p r (IsUpTo j) bound → HasReported p r (IsEarlier next) more
 next_reported p r j next bound more follows l u = retold p r (IsUpTo j) (IsEarlier next) bound more l to from u
   where
@@ -271,7 +271,7 @@ next_reported p r j next bound more follows l u = retold p r (IsUpTo j) (IsEarli
       | inr e ↦ elim e [ inl same ↦ inr same | inr high ↦ absurd (is.first v.second (second_is_place p v x) high h) ]
     ]
 
--- where no place follows, what came up to it is all
+-- Where no place follows, what came up to it is all.
 pub all_reported : (p : Program) (r : Report) (j : Place) (bound : ℕ) → next_of p.bundles j ≡ None → HasReported p r (IsUpTo j) bound → ReportsAll p r
 all_reported p r j bound end u = record {
   all = u.all;
@@ -288,7 +288,7 @@ all_reported p r j bound end u = record {
       | inr e ↦ elim e [ inl same ↦ inr same | inr high ↦ absurd (none v.second (second_is_place p v x) high) ]
     ]
 
--- a report of none is one on a program without violations
+-- A report of none is one on a program without violations.
 pub free_of_none : (p : Program) (r : Report) → ReportsAll p r → r.total ≡ 0 → HasNoViolation p
 free_of_none p r a none = of a.all refl
   where
@@ -296,7 +296,7 @@ free_of_none p r a none = of a.all refl
     of [] e = λ v x. not_in_none v (subst (λ (l : List Violation). Contains l v) e (a.list.has v x))
     of (v ∷ vs) e = absurd (omega (arith, a.shows.total, ap length e))
 
--- the verdict of a report
+-- The verdict of a report.
 pub verdict_of : (p : Program) (r : Report) → ReportsAll p r → IsVerdict p (cond (eqb r.total 0) (Accepted p) (Violations r))
 verdict_of p r a = of a.all refl
   where
@@ -309,7 +309,7 @@ verdict_of p r a = of a.all refl
         let some : eqb r.total 0 ≡ false = ne_eqb r.total 0 (λ z. omega (arith, a.shows.total, ap length e)) in
         rw some (record { all = a.all; list = a.list; some = omega (arith, ap length e); shows = a.shows })
 
--- at the first place nothing is reported
+-- At the first place nothing is reported.
 pub none_reported : (p : Program) (r : Report) → r.total ≡ 0 → r.shown ≡ [] → HasReported p r (IsEarlier (first_of 0)) 0
 none_reported p r a b = record {
   all = [];

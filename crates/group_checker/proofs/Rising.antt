@@ -27,7 +27,7 @@ use Rattle.group_checker.proofs.SetLists.{sorted_append}
 total : IsTotalOrder compare
 total = laws.total-law
 
--- what compares equal is the same
+-- What compares equal is the same.
 exact_rule : (x y : Rule) → rule_cmp x y ≡ Equal → x ≡ y
 exact_rule Raw Raw h = refl
 exact_rule Waw Waw h = refl
@@ -69,18 +69,18 @@ exact v w h =
       resource = exact_resource v.resource w.resource rule.1 i;
     }
 
--- none comes before itself
+-- None comes before itself.
 pub not_before_itself : (v : Violation) → Precedes v v → ⊥
 not_before_itself v h = let e = tied_itself total v in absurd cc
 
 place_precedes : (x y : Place) → IsBefore x y → place_cmp x y ≡ Less
 place_precedes x y h = grind (arith, nat_tests)
 
--- violations with an earlier second slot come first
+-- Violations with an earlier second slot come first.
 pub precedes_by_second : (v w : Violation) → IsBefore v.second w.second → Precedes v w
 precedes_by_second v w h = rw (place_precedes v.second w.second h) refl
 
--- then those with an earlier first slot
+-- Then those with an earlier first slot.
 pub precedes_by_first : (v w : Violation) → v.second ≡ w.second → IsBefore v.first w.first → Precedes v w
 precedes_by_first v w e h = rw (e, tied_itself places.total-law w.second, place_precedes v.first w.first h) refl
 
@@ -91,7 +91,7 @@ same_rule War63 = refl
 same_rule AllocFirst = refl
 same_rule ClearLast = refl
 
--- of two slots those of an earlier rule come first
+-- Of two slots those of an earlier rule come first.
 pub precedes_by_rule : (v w : Violation) → v.second ≡ w.second → v.first ≡ w.first → rule_cmp v.rule w.rule ≡ Less → Precedes v w
 precedes_by_rule v w e f h = rw (e, f, tied_itself places.total-law w.second, tied_itself places.total-law w.first, h) refl
 
@@ -99,19 +99,19 @@ precedes_by_rule v w e f h = rw (e, f, tied_itself places.total-law w.second, ti
 pub compared_by_resource : (second first : Place) (rule : Rule) (q r : Resource) → compare (record { second = second; first = first; rule = rule; resource = q }) (record { second = second; first = first; rule = rule; resource = r }) ≡ resource_cmp q r
 compared_by_resource second first rule q r = rw (tied_itself places.total-law second, tied_itself places.total-law first, same_rule rule) refl
 
--- a list with no violation rises
+-- A list with no violation rises.
 pub rises_none : Rises []
 unfolding IsStrictlySortedBy
 rises_none = tt
 
--- rising lists of which the first is before the second rise together
+-- Rising lists of which the first is before the second rise together.
 pub rises_append : (xs ys : List Violation) → Rises xs → Rises ys → ((x y : Violation) → Contains xs x → Contains ys y → Precedes x y) → Rises (xs ++ ys)
 rises_append xs ys a b h = sorted_append compare xs ys a b h
 
 is_in : (s : BTreeSet Violation) (v : Violation) → IsTrue (contains compare s v) ↔ Contains s.keys v
 is_in s v = btree_set_contains_iff total exact s v
 
--- two rising lists of the same violations are one
+-- Two rising lists of the same violations are one.
 pub one_rising_list : (xs ys : List Violation) → Rises xs → Rises ys → ((v : Violation) → Contains xs v → Contains ys v) → ((v : Violation) → Contains ys v → Contains xs v) → xs ≡ ys
 one_rising_list xs ys a b f g =
     btree_set_from_contains total s t a b (λ v. same (contains compare s v) (contains compare t v) (λ h. (is_in t v).1 (f v ((is_in s v).0 h))) (λ h. (is_in s v).1 (g v ((is_in t v).0 h)))) exact

@@ -23,12 +23,12 @@ pub each_of : {X : Type 0} (P : X → Type 0) (xs : List X) → ((x : X) → Con
 each_of P [] h = tt
 each_of P (x ∷ xs) h = (h x (head_in x xs), each_of P xs (λ y c. h y (in_tail x y xs c)))
 
--- what holds of each element holds of this one
+-- What holds of each element holds of this one.
 pub in_each : {X : Type 0} (P : X → Type 0) (xs : List X) (x : X) → Each P xs → Contains xs x → P x
 in_each P [] x h c = absurd (not_in_none x c)
 in_each P (y ∷ ys) x h c = elim (cases_in y x ys c) [ inl e ↦ subst P e h.0 | inr d ↦ in_each P ys x h.1 d ]
 
--- sorted lists of which the first is before the second are sorted together
+-- Sorted lists of which the first is before the second are sorted together.
 pub sorted_append : {X : Type 0} (cmp : X → X → Ordering) (xs ys : List X) → IsStrictlySortedBy cmp xs → IsStrictlySortedBy cmp ys → ((x y : X) → Contains xs x → Contains ys y → cmp x y ≡ Less) → IsStrictlySortedBy cmp (xs ++ ys)
 unfolding IsStrictlySortedBy
 sorted_append cmp [] ys a b h = b
@@ -39,14 +39,14 @@ each_mapped : {X Y : Type 0} (g : X → Y) (P : X → Type 0) (Q : Y → Type 0)
 each_mapped g P Q f [] h = tt
 each_mapped g P Q f (x ∷ xs) h = (f x h.0, each_mapped g P Q f xs h.1)
 
--- the image of a sorted list in the same order
+-- The image of a sorted list in the same order.
 pub sorted_map : {X Y : Type 0} (g : X → Y) (cmp : X → X → Ordering) (order : Y → Y → Ordering) → ((x y : X) → order (g x) (g y) ≡ cmp x y) → (xs : List X) → IsStrictlySortedBy cmp xs → IsStrictlySortedBy order (map g xs)
 unfolding IsStrictlySortedBy
 sorted_map g cmp order same [] h = tt
 sorted_map g cmp order same (x ∷ xs) h =
     (each_mapped g (λ y. cmp x y ≡ Less) (λ y. order (g x) y ≡ Less) (λ y e. same x y ∙ e) xs h.0, sorted_map g cmp order same xs h.1)
 
--- what a filter lets through
+-- What a filter lets through.
 in_filter : {X : Type 0} (p : X → Bool) (xs : List X) (x : X) → Contains xs x → p x ≡ true → Contains (filter p xs) x
 in_filter p [] x c h = absurd (not_in_none x c)
 in_filter {X} p (y ∷ ys) x c h = elim (cases_in y x ys c) [
@@ -69,7 +69,7 @@ from_filter {X} p (y ∷ ys) x c = of (p y) refl c (from_filter p ys x)
     ]
     of false t k rest = let h = rest k in (in_tail y x ys h.0, h.1)
 
--- the numbers of a sort
+-- The numbers of a sort.
 in_numbered : (sort : ℕ → Resource) (left n m : ℕ) → n ≤ m → m < n + left → Contains (numbered sort left n) (sort m)
 unfolding numbered
 in_numbered sort zero n m i j = absurd (omega arith)
@@ -103,7 +103,7 @@ sorted_others : IsStrictlySortedBy resource_cmp others
 unfolding IsStrictlySortedBy
 sorted_others = ((refl, (refl, (refl, (refl, tt)))), ((refl, (refl, (refl, tt))), ((refl, (refl, tt)), ((refl, tt), (tt, tt)))))
 
--- resources of two sorts
+-- Resources of two sorts.
 apart : (p : Resource → Bool) (sort next : ℕ → Resource) (a b : ℕ) → ((m n : ℕ) → resource_cmp (sort m) (next n) ≡ Less) → (x y : Resource) → Contains (filter p (numbered sort a 0)) x → Contains (filter p (numbered next b 0)) y → resource_cmp x y ≡ Less
 apart p sort next a b h x y c d =
     let (m, _, e) = from_numbered sort a 0 x (from_filter p (numbered sort a 0) x c).0 in
@@ -116,7 +116,7 @@ last p sort a h x y c d =
     let (m, _, e) = from_numbered sort a 0 x (from_filter p (numbered sort a 0) x c).0 in
     subst (λ (q : Resource). resource_cmp q y ≡ Less) e (in_each (λ q. resource_cmp (sort m) q ≡ Less) others y (h m) (from_filter p others y d).0)
 
--- the list of the resources of a set rises
+-- The list of the resources of a set rises.
 pub resources_rise : (s : ResourceSet) → IsStrictlySortedBy resource_cmp (resources_in s)
 unfolding resources_in
 resources_rise s =

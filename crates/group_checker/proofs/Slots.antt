@@ -41,7 +41,7 @@ module _ (g : Graph) (has_stop : Place → Bool) (j : Place) (s : Slot) (d : Des
   pub slot_place : IsPlaceIn g j
   slot_place = subst IsSome (sym d.here) refl
 
-  -- what is known past the slot is what is known past its place
+  -- What is known past the slot is what is known past its place.
   pub slot_past : (f : Pairs) → pairs_by f (action_rule s.action Falls s.qp) ≡ pairs_past_in g j Falls f
   unfolding pairs_after rule_of
   slot_past f =
@@ -49,7 +49,7 @@ module _ (g : Graph) (has_stop : Place → Bool) (j : Place) (s : Slot) (d : Des
       ∙ ap (λ o. pairs_past_insn o Falls f) (sym d.here)
       ∙ sym (past_is g j Falls f)
 
-  -- control falls from a slot that joins the next one within a group
+  -- Control falls from a slot that joins the next one within a group.
   pub slot_joins : (next : Place) → joins s ≡ true → next_in g j ≡ Some next → Joins g has_stop j next
   slot_joins next joined follows =
       let (falls, goes) = and_parts s.falls (not s.stop) joined in
@@ -73,7 +73,7 @@ module _ (g : Graph) (has_stop : Place → Bool) (j : Place) (s : Slot) (d : Des
       of false stop h e = absurd (true≢false (sym e))
 
 module _ (p : Program) (j : Place) (s : Slot) (at : slot_at p.bundles j ≡ Some s) where
-  -- the slot of a place of a program describes it
+  -- The slot of a place of a program describes it.
   pub slot_describes : Describes (over_program p) (is_stopped p.bundles) j s
   slot_describes =
       let i = slot_is p.bundles j s at in
@@ -89,7 +89,7 @@ module _ (p : Program) (j : Place) (s : Slot) (at : slot_at p.bundles j ≡ Some
   pub slot_next : s.next ≡ next_of p.bundles j
   slot_next = let i = slot_is p.bundles j s at in ap (λ (q : Slot). q.next) (sym i.is)
 
-  -- the slot is under way with its accesses
+  -- The slot is under way with its accesses.
   pub under_way : (es : List EarlierSlot) (seconds : List Access) → seconds ≡ accesses_of s.qp s.action → IsWindow (over_program p) (is_stopped p.bundles) es j → HasWindow (over_program p) (is_stopped p.bundles) es j s seconds
   under_way es seconds is win = record {
     slot = slot_describes;

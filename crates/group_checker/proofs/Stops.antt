@@ -16,7 +16,7 @@ use Rattle.group_checker.specs.Windows.{IsThrough, IsCarried}
 use Rattle.group_checker.specs.WindowLaws.{AgreeBefore, GroupsAgree, ViolationsAgree, WindowsAgree}
 use Rattle.order_laws.proofs.Falling.{before_trans, falls_up}
 
--- a group looks only at the stops before the walk's end
+-- A group looks only at the stops before the walk's end.
 pub groups_agree : GroupsAgree
 groups_agree g has_stop other (begins bundle) is agree = refl
 groups_agree g has_stop other (goes_on w Taken place) is agree = refl
@@ -49,12 +49,12 @@ module _ (g : Graph) (has_stop other : Place → Bool) (w : Walk) (same : group_
   breaks_on i AllocFirst q b = (b.0, subst (λ (l : List Place). IsLatest l i) same b.1, b.2)
   breaks_on i ClearLast q b = (b.0, subst (λ (l : List Place). IsLatest l i) same b.1, b.2)
 
--- the groups of walks to a place, where the two agree before it
+-- The groups of walks to a place, where the two agree before it.
 agree_there : (g : Graph) (has_stop other : Place → Bool) (j : Place) (w : Walk) → AgreeBefore j has_stop other → EndsIn g j w → group_since has_stop w ≡ group_since other w
 agree_there g has_stop other j w agree there =
     groups_agree g has_stop other w there.walks (subst (λ (k : Place). AgreeBefore k has_stop other) (sym there.ends) agree)
 
--- a violation looks only at the stops before the second slot
+-- A violation looks only at the stops before the second slot.
 pub violations_agree : ViolationsAgree
 violations_agree g has_stop other v agree x =
     let same = agree_there g has_stop other v.second x.walk agree x.there in
@@ -65,7 +65,7 @@ violations_agree g has_stop other v agree x =
       breaks = breaks_on g has_stop other x.walk same v.first v.rule v.resource x.breaks;
     }
 
--- a walk through a slot is one with the other stops too
+-- A walk through a slot is one with the other stops too.
 through_on : (g : Graph) (has_stop other : Place → Bool) (i j : Place) (w : Walk) → AgreeBefore j has_stop other → IsThrough g has_stop i j w → IsThrough g other i j w
 through_on g has_stop other i j w agree t = record {
   there = t.there;

@@ -11,11 +11,11 @@ use Rattle.order_laws.specs.Violations.{Violates}
 use Rattle.group_checker.specs.Reports.{IsReport, OneVerdict}
 use Rattle.group_checker.proofs.Rising.{one_rising_list}
 
--- the rising list of what has a property is one
+-- The rising list of what has a property is one.
 one_list : (P : Violation → Type 0) (xs ys : List Violation) → IsListOf P xs → IsListOf P ys → xs ≡ ys
 one_list P xs ys a b = one_rising_list xs ys a.rises b.rises (λ v c. b.has v (a.only v c)) (λ v c. a.has v (b.only v c))
 
--- a report tells of some violation
+-- A report tells of some violation.
 not_free : (p : Program) (r : Report) → IsReport p r → ((v : Violation) → ¬ Violates p v) → ⊥
 not_free p r is none = of is.all is.list is.some
   where
@@ -23,7 +23,7 @@ not_free p r is none = of is.all is.list is.some
     of [] list some = omega arith
     of (v ∷ vs) list some = none v (list.only v (in_head v v vs refl))
 
--- two reports on one program are the same
+-- Two reports on one program are the same.
 one_report : (p : Program) (r s : Report) → IsReport p r → IsReport p s → r ≡ s
 one_report p r s a b =
     let same : a.all ≡ b.all = one_list (Violates p) a.all b.all a.list b.list in

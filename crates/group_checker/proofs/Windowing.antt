@@ -22,7 +22,7 @@ use Rattle.order_laws.proofs.Falling.{before_trans, not_before_itself, number_ri
 use Rattle.group_checker.proofs.Meets.{GoOn, meet_past, meet_at}
 use Rattle.group_checker.proofs.EarlierSlots.{at_once, earlier_at, at_push, pushed_left, pushed_last}
 
--- where no walk has an earlier slot in its group the window is empty
+-- Where no walk has an earlier slot in its group the window is empty.
 pub empty_window : (g : Graph) (has_stop : Place → Bool) (j : Place) → ((w : Walk) → EndsIn g j w → (i : Place) → Contains (group_since has_stop w) i → ⊥) → IsWindow g has_stop [] j
 empty_window g has_stop j none = record {
   size = omega arith;
@@ -34,7 +34,7 @@ empty_window g has_stop j none = record {
   all = λ w there i c. absurd (none w there i c);
 }
 
--- nothing comes before the first place
+-- Nothing comes before the first place.
 pub first_window : (g : Graph) (has_stop : Place → Bool) → IsWindow g has_stop [] (first_of 0)
 first_window g has_stop = empty_window g has_stop (first_of 0) (λ w there i c.
     let from = comes_from g has_stop w i there.walks c in
@@ -49,7 +49,7 @@ pub record Came (g : Graph) (has_stop : Place → Bool) (j next : Place) (w : Wa
   pub facts : facts_in g w ≡ pairs_past_in g j Falls (facts_in g before)
   pub group : group_since has_stop w ≡ j ∷ group_since has_stop before
 
--- the place before is the one from which control falls there
+-- The place before is the one from which control falls there.
 pub came : (g : Graph) (has_stop : Place → Bool) (j next : Place) (w : Walk) (i : Place) → IsPlaceIn g j → next_in g j ≡ Some next → EndsIn g next w → Contains (group_since has_stop w) i → Came g has_stop j next w
 came g has_stop j next w i is follows there c =
     let from = comes_from g has_stop w i there.walks c in
@@ -64,7 +64,7 @@ came g has_stop j next w i is follows there c =
       group = from.group ∙ ap (λ (k : Place). k ∷ group_since has_stop from.before) at;
     }
 
--- where no walk ends at a place the next place has an empty window
+-- Where no walk ends at a place the next place has an empty window.
 pub unreached_window : (g : Graph) (has_stop : Place → Bool) (j next : Place) → IsPlaceIn g j → next_in g j ≡ Some next → NoWalkIn g j → IsWindow g has_stop [] next
 unreached_window g has_stop j next is follows none = empty_window g has_stop next (λ w there i c. let b = came g has_stop j next w i is follows there c in none b.before b.there)
 
@@ -79,7 +79,7 @@ pub record Joins (g : Graph) (has_stop : Place → Bool) (j next : Place) : Type
   pub edge : IsEdgeIn g j Falls next
   pub unstopped : has_stop j ≡ false
 
--- a walk goes on to the next place
+-- A walk goes on to the next place.
 goes_there : (g : Graph) (has_stop : Place → Bool) (j next : Place) (w : Walk) → Joins g has_stop j next → EndsIn g j w → EndsIn g next (goes_on w Falls next)
 goes_there g has_stop j next w join there = record { walks = (there.walks, subst (λ (k : Place). IsEdgeIn g k Falls next) (sym there.ends) join.edge); ends = refl }
 
@@ -92,7 +92,7 @@ goes_group g has_stop j next w join there =
 goes_facts : (g : Graph) (j next : Place) (w : Walk) → EndsIn g j w → facts_in g (goes_on w Falls next) ≡ pairs_past_in g j Falls (facts_in g w)
 goes_facts g j next w there = ap (λ (k : Place). pairs_past_in g k Falls (facts_in g w)) there.ends
 
--- the walk before passes the same slots but the last
+-- The walk before passes the same slots but the last.
 passed_before : (g : Graph) (has_stop : Place → Bool) (j next i : Place) (w : Walk) (b : Came g has_stop j next w) → Contains (group_since has_stop w) i → (j ≡ i) ⊎ Contains (group_since has_stop b.before) i
 passed_before g has_stop j next i w b c = cases_in j i (group_since has_stop b.before) (subst (λ (l : List Place). Contains l i) b.group c)
 
@@ -110,7 +110,7 @@ through_before g has_stop j next i w join low h =
       },
     )
 
--- the walks through an earlier slot go on
+-- The walks through an earlier slot go on.
 old_walks : (g : Graph) (has_stop : Place → Bool) (j next i : Place) → Joins g has_stop j next → IsBefore i j → GoOn g j (IsThrough g has_stop i j) (IsThrough g has_stop i next)
 old_walks g has_stop j next i join low = record {
   on = λ w h. (
@@ -178,7 +178,7 @@ carried_new g has_stop j next f mask e join meet is = record {
   below = subst (λ (k : Place). IsBefore k next) (sym is.place) (falls_up g j next join.edge);
 }
 
--- a later slot comes later, and each walk through an earlier one passes it
+-- A later slot comes later, and each walk through an earlier one passes it.
 rises_on : (g : Graph) (has_stop : Place → Bool) (j : Place) (mask : ℕ) (old new : List EarlierSlot) (e : EarlierSlot) → IsWindow g has_stop old j → e.place ≡ j → HasAdvanced g j mask old new (length old) → (m n : ℕ) (a b : EarlierSlot) → IsAt (new ++ e ∷ []) m a → IsAt (new ++ e ∷ []) n b → m < n → IsBefore a.place b.place
 rises_on g has_stop j mask old new e win is adv m n a b h k less = of (which g j mask old new e m a adv h) (which g j mask old new e n b adv k)
   where
@@ -209,7 +209,7 @@ passes_on g has_stop j next mask old new e join win is adv m n a b h k less w t 
     of (inr x) (inl y) = absurd (omega (arith, x.0, y.at.short))
     of (inr x) (inr y) = absurd (omega (arith, x.0, y.0))
 
--- a slot stays where it is
+-- A slot stays where it is.
 still_there : (g : Graph) (j : Place) (mask : ℕ) (old new : List EarlierSlot) (e : EarlierSlot) (m : ℕ) (a : EarlierSlot) → HasAdvanced g j mask old new (length old) → IsAt old m a → (b : EarlierSlot) × IsAt (new ++ e ∷ []) m b × GoesOn g j mask a b
 still_there g j mask old new e m a adv at =
     let short : m < length new = omega (arith, at.short, adv.same_length) in
@@ -218,7 +218,7 @@ still_there g j mask old new e m a adv at =
     let (c, was, on) = adv.done m b at.short there in
     (b, pushed_left new e m b there, subst (λ (q : EarlierSlot). GoesOn g j mask q b) (at_once old m c a was at) on)
 
--- each slot that is now earlier is there
+-- Each slot that is now earlier is there.
 all_on : (g : Graph) (has_stop : Place → Bool) (j next : Place) (mask : ℕ) (old new : List EarlierSlot) (e : EarlierSlot) → Joins g has_stop j next → IsWindow g has_stop old j → e.place ≡ j → HasAdvanced g j mask old new (length old) → (w : Walk) → EndsIn g next w → (i : Place) → Contains (group_since has_stop w) i → HasPlace (new ++ e ∷ []) i
 all_on g has_stop j next mask old new e join win is adv w there i c =
     let b = came g has_stop j next w i join.is (falls_next g j next join.edge) there c in
@@ -232,7 +232,7 @@ all_on g has_stop j next mask old new e join win is adv w there i c =
         let (b, there, on) = still_there g j mask old new e h.index h.slot adv h.at in
         record { index = h.index; slot = b; at = there; is = on.place ∙ h.is }
 
--- each slot from an earlier one on that may write a predicate is one of the old ones or the slot that is left
+-- Each slot from an earlier one on that may write a predicate is one of the old ones or the slot that is left.
 writer_on : (g : Graph) (j : Place) (mask : ℕ) (old new : List EarlierSlot) (e : EarlierSlot) (m guard : ℕ) → e.place ≡ j → HasAdvanced g j mask old new (length old) → HasWriter g (new ++ e ∷ []) m guard → HasWriter g old m guard ⊎ (may_write_guard guard (accesses_at g j) ≡ true)
 writer_on g j mask old new e m guard is adv h = elim (which g j mask old new e h.index h.slot adv h.at) [
   | inl x ↦ inl (record { index = h.index; slot = x.slot; late = h.late; at = x.at; writes = subst (λ (k : Place). may_write_guard guard (accesses_at g k) ≡ true) x.on.place h.writes })
@@ -248,7 +248,7 @@ new_writer : (g : Graph) (j : Place) (new : List EarlierSlot) (e : EarlierSlot) 
 new_writer g j new e m guard is low writes =
     record { index = length new; slot = e; late = low; at = pushed_last new e; writes = subst (λ (k : Place). may_write_guard guard (accesses_at g k) ≡ true) (sym is) writes }
 
--- what may be written from an earlier slot on, with the slot that is left
+-- What may be written from an earlier slot on, with the slot that is left.
 written_old : (g : Graph) (j : Place) (mask : ℕ) (old new : List EarlierSlot) (e : EarlierSlot) (m : ℕ) (a b : EarlierSlot) → e.place ≡ j → IsGuardMask mask (accesses_at g j) → HasAdvanced g j mask old new (length old) → m ≤ length new → IsWritten g old m a.written → GoesOn g j mask a b → IsWritten g (new ++ e ∷ []) m b.written
 written_old g j mask old new e m a b is masks adv low win on = subst (IsWritten g (new ++ e ∷ []) m) (sym on.written) (record {
   has = λ guard l h. has_bit_or a.written mask guard ∙ (elim (writer_on g j mask old new e m guard is adv h) [
@@ -293,7 +293,7 @@ next_window g has_stop j next f mask old new e join meet win adv is masks = reco
   all = all_on g has_stop j next mask old new e join win is.place adv;
 }
 
--- the slots go on one after another
+-- The slots go on one after another.
 pub none_advanced : (g : Graph) (j : Place) (mask : ℕ) (old : List EarlierSlot) → HasAdvanced g j mask old old 0
 none_advanced g j mask old = record { same_length = refl; done = λ m b l h. absurd (omega arith); left = λ m b l h. h }
 
@@ -311,7 +311,7 @@ one_advanced g j mask old now n a b adv at on = record {
     kept : (m : ℕ) (c : EarlierSlot) → (m ≡ n → ⊥) → IsAt (set now n b) m c → IsAt now m c
     kept m c ne h = record { short = omega (arith, h.short, length-set now n b); is = sym (get_or-set_other now n m b c ne) ∙ h.is }
 
--- the predicates that are written
+-- The predicates that are written.
 pub guard_mask : (mask : ℕ) (accesses : List Access) → ((g : ℕ) → g < 64 → bit mask g ≡ may_write_guard g accesses) → IsGuardMask mask accesses
 unfolding has_bit
 guard_mask mask accesses each = each

@@ -8,7 +8,7 @@ use Rattle.resource_sets.specs.ResourceSets.{has_resource, resources_in}
 use Rattle.order_laws.specs.declared.violation.Violation.{Violation}
 use Rattle.group_checker.specs.declared.broken.Broken.{Broken}
 
--- the resources on which a rule is broken
+-- The resources on which a rule is broken.
 abbrev pub broken_on : Broken → Rule → ResourceSet
 broken_on b Raw = b.raw
 broken_on b Waw = b.waw
@@ -16,7 +16,7 @@ broken_on b War63 = b.war63
 broken_on b AllocFirst = b.alloc_first
 broken_on b ClearLast = b.clear_last
 
--- the rule of the violation is broken on its resource
+-- The rule of the violation is broken on its resource.
 abbrev pub is_broken : Broken → Violation → Bool
 is_broken b v = has_resource (broken_on b v.rule) v.resource
 

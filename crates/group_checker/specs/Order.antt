@@ -47,7 +47,7 @@ compare v w =
     ordering_then (place_cmp v.second w.second) (ordering_then (place_cmp v.first w.first)
     (ordering_then (rule_cmp v.rule w.rule) (resource_cmp v.resource w.resource)))
 
--- v is reported before w
+-- v is reported before w.
 abbrev pub Precedes : Violation → Violation → Type 0
 Precedes v w = compare v w ≡ Less
 
@@ -55,7 +55,7 @@ Precedes v w = compare v w ≡ Less
 abbrev pub Rises : List Violation → Type 0
 Rises all = IsStrictlySortedBy compare all
 
--- the rising list of what has P
+-- The rising list of what has P.
 pub record IsListOf (P : Violation → Type 0) (all : List Violation) : Type 0 where
   pub rises : Rises all
   pub has : (v : Violation) → P v → Contains all v

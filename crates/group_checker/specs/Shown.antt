@@ -2,7 +2,7 @@
 use Rattle.std.specs.Prelude.{ℕ, List}
 use Rattle.order_laws.specs.declared.violation.Violation.{Violation}
 
--- how many violations there are, and those that are shown
+-- How many violations there are, and those that are shown.
 pub record Report : Type 0 where
   pub total : ℕ
   pub shown : List Violation

@@ -18,7 +18,7 @@ use Rattle.group_checker.specs.declared.moves.Passed.{Passed}
 use Rattle.order_laws.specs.Excuses.{accesses_at}
 use Rattle.order_laws.specs.Violations.{clears_at}
 
--- a walk to j with i earlier in its group
+-- A walk to j with i earlier in its group.
 pub record IsThrough (g : Graph) (has_stop : Place → Bool) (i j : Place) (w : Walk) : Type 0 where
   pub there : EndsIn g j w
   pub inside : Contains (group_since has_stop w) i
@@ -29,7 +29,7 @@ pub record IsMeetOf (g : Graph) (IsOne : Walk → Type 0) (f : Pairs) : Type 0 w
   pub sound : (w : Walk) → IsOne w → IsWithin f (facts_in g w)
   pub exact : (x y : ℕ) → f x y ≡ false → (w : Walk) × IsOne w × (facts_in g w x y ≡ false)
 
--- the m-th slot of the window
+-- The m-th slot of the window.
 pub record IsAt (window : List EarlierSlot) (m : ℕ) (e : EarlierSlot) : Type 0 where
   pub short : m < length window
   pub is : slice_index_or window m e ≡ e
@@ -93,11 +93,11 @@ pub record HasWindow (g : Graph) (has_stop : Place → Bool) (es : List EarlierS
 abbrev pub IsKnownAt : Graph → Place → Known → Type 0
 IsKnownAt g place known = MatchOption known (NoWalkIn g place) (λ rows. IsMeetIn g place (pairs_of rows))
 
--- control may fall from the slot to the next one, where there is one, within a group
+-- Control may fall from the slot to the next one, where there is one, within a group.
 abbrev pub joins : Slot → Bool
 joins slot = slot.falls && not slot.stop
 
--- the bits of the word are the predicates that an instruction with these accesses may write
+-- The bits of the word are the predicates that an instruction with these accesses may write.
 abbrev pub IsGuardMask : ℕ → List Access → Type 0
 IsGuardMask mask accesses = (g : ℕ) → g < 64 → has_bit mask g ≡ may_write_guard g accesses
 
@@ -105,7 +105,7 @@ IsGuardMask mask accesses = (g : ℕ) → g < 64 → has_bit mask g ≡ may_writ
 abbrev pub IsPassed : Slot → Passed → Type 0
 IsPassed slot passed = pairs_of passed.after ≡ pairs_by (pairs_of passed.before) (action_rule slot.action Falls slot.qp)
 
--- the earlier slot with what is known past the one at j, which may write the predicates of the mask
+-- The earlier slot with what is known past the one at j, which may write the predicates of the mask.
 pub record GoesOn (g : Graph) (j : Place) (mask : ℕ) (old new : EarlierSlot) : Type 0 where
   pub place : new.place ≡ old.place
   pub clears : new.clears ≡ old.clears

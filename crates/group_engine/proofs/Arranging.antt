@@ -8,20 +8,20 @@ use Rattle.ia_meaning.specs.WriteOrders.{item_at, others, arranged}
 use Rattle.ia_meaning.specs.NumberedRuns.{order}
 use Rattle.ia_meaning.proofs.Codes.{code_is_permutation}
 
--- the others are one fewer
+-- The others are one fewer.
 length_others : {X : Type 0} (x : X) (xs : List X) (k : ℕ) → length (others x xs k) ≡ length xs
 length_others x [] k = refl
 length_others x (y ∷ ys) zero = refl
 length_others x (y ∷ ys) (suc k) = ap suc (length_others y ys k)
 
--- the next item, and the order of the others
+-- The next item, and the order of the others.
 next : {X : Type 0} (x : X) (xs : List X) (number : ℕ) → arranged (order number (suc (length xs))) (x ∷ xs) ≡ item_at x xs (number % suc (length xs)) ∷ arranged (order (number / suc (length xs)) (length xs)) (others x xs (number % suc (length xs)))
 unfolding order
 next x xs number =
     let within : number % suc (length xs) % suc (length xs) ≡ number % suc (length xs) = mod-eq_of_lt (omega arith) in
     rw (within, length_others x xs (number % suc (length xs))) refl
 
--- the item at 0 is the first one, and the others are those after it
+-- The item at 0 is the first one, and the others are those after it.
 first_item : {X : Type 0} (x : X) (xs : List X) → item_at x xs 0 ≡ x
 first_item x [] = refl
 first_item x (y ∷ ys) = refl
@@ -44,7 +44,7 @@ pub arranged_all : {X : Type 0} (i : ℕ) (xs : List X) (number count : ℕ) →
 arranged_all i xs number count h none =
     rw (none, unmoved (drop i xs) (count - i) (omega (arith, length-drop i xs))) (take-append-drop i xs)
 
--- the item at k, alone
+-- The item at k, alone.
 alone : {X : Type 0} (x : X) (xs : List X) (k : ℕ) → k ≤ length xs → drop k (take (suc k) (x ∷ xs)) ≡ item_at x xs k ∷ []
 alone x [] zero h = refl
 alone x [] (suc k) h = absurd (omega (arith, h))
@@ -58,17 +58,17 @@ around x [] (suc k) h = absurd (omega (arith, h))
 around x (y ∷ ys) zero h = refl
 around x (y ∷ ys) (suc k) h = ap (λ l. x ∷ l) (around y ys k (omega (arith, h)))
 
--- a list whose last item comes first
+-- A list whose last item comes first.
 abbrev rotated : {X : Type 0} → List X → List X
 rotated xs = drop (length xs - 1) xs ++ take (length xs - 1) xs
 
--- the item at k is moved to the front
+-- The item at k is moved to the front.
 moved : {X : Type 0} (x : X) (xs : List X) (k : ℕ) → k ≤ length xs → rotated (take (suc k) (x ∷ xs)) ++ drop (suc k) (x ∷ xs) ≡ item_at x xs k ∷ others x xs k
 moved x xs k h =
     let count : length (take (suc k) (x ∷ xs)) - 1 ≡ k = omega (arith, length-take-le k xs h) in
     rw (count, alone x xs k h) (ap (λ l. item_at x xs k ∷ l) (around x xs k h))
 
--- one item more stands where it comes in the order
+-- One item more stands where it comes in the order.
 one_more : {X : Type 0} (i : ℕ) (xs ys : List X) (number left size : ℕ) → length xs ≡ i + suc left → size ≡ suc (number % suc left) → ys ≡ rotated (take size (drop i xs)) → take i xs ++ arranged (order number (suc left)) (drop i xs) ≡ take (suc i) (put_mid i size xs ys) ++ arranged (order (number / suc left) left) (drop (suc i) (put_mid i size xs ys))
 one_more zero [] ys number left size h k e = absurd (omega arith)
 one_more zero (x ∷ xs) ys number left size h k e =

@@ -19,7 +19,7 @@ use Rattle.ia_meaning.proofs.Spots.{spot_static}
 use Rattle.group_engine.proofs.Keeping.{kept_on}
 use Rattle.group_engine.proofs.Views.{look_seen}
 
--- a static register is written at its own number, but r0 is not
+-- A static register is written at its own number, but r0 is not.
 pub static_written : (f : FrameShape) (n : ℕ) (cell : Cell) → 0 < n → n < 32 → set_at (spot f n) cell [] ≡ SetStatic n cell ∷ []
 static_written f zero cell l h = absurd (omega (arith, l))
 static_written f (suc n) cell l h = rw (spot_static f (suc n) h) refl
@@ -27,12 +27,12 @@ static_written f (suc n) cell l h = rw (spot_static f (suc n) h) refl
 pub r0_unwritten : (f : FrameShape) (n : ℕ) (cell : Cell) → n ≡ 0 → set_at (spot f n) cell [] ≡ []
 r0_unwritten f n cell e = rw (e, spot_static f 0 (omega arith)) refl
 
--- no predicate but p0 stands at place 0
+-- No predicate but p0 stands at place 0.
 pub place_some : (f : FrameShape) (p : ℕ) → p ≢ 0 → 1 ≤ predicate_index f p
 unfolding predicate_index
 place_some f p h = grind (arith, nat_tests)
 
--- a predicate is written at its place, but p0 is not
+-- A predicate is written at its place, but p0 is not.
 pub predicate_written : (f : FrameShape) (p : ℕ) (b : Bool) → p ≢ 0 → set_predicate (predicate_spot f p) b [] ≡ SetPredicate (predicate_index f p) b ∷ []
 unfolding predicate_spot
 predicate_written f zero b h = absurd (h refl)
@@ -42,7 +42,7 @@ pub p0_unwritten : (f : FrameShape) (p : ℕ) (b : Bool) → p ≡ 0 → set_pre
 unfolding predicate_spot
 p0_unwritten f p b e = rw e refl
 
--- the number of the places from the n-th on
+-- The number of the places from the n-th on.
 left_from : (n : ℕ) → n < 64 → 64 - n ≡ suc (64 - (n + 1))
 left_from n h = omega arith
 

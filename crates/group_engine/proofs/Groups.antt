@@ -19,7 +19,7 @@ use Rattle.ia_meaning.specs.Runs.{ParGroupEnds}
 use Rattle.group_engine.specs.Engine.{Engine, after_group}
 use Rattle.group_engine.specs.Groups.{rest_of, HasGathered, HasRestOf}
 
--- the writes of a group in the order with a number
+-- The writes of a group in the order with a number.
 abbrev pub in_order : ℕ → Gathered → List Write
 in_order number g = arranged (order number (length g.writes)) g.writes
 
@@ -32,12 +32,12 @@ pub record IsMade (group : Group) (number : ℕ) (g : Gathered) (last : Option E
 made_is : (number : ℕ) (group : GatheredGroup) (g : Gathered) (last : Option End) → HasGathered group g last → IsMade (made_in_order number group) number g last
 made_is number group g last h = let a = h.all in let e = h.end in record { state = cc; end = e; frames = cc }
 
--- a group that is gathered and made is the group with the number
+-- A group that is gathered and made is the group with the number.
 pub group_made : (number : ℕ) (p : Program) (s : State) (g : Gathered) (last : Option End) → HasGathered (rest_of RUN_LIMIT p true (gathered_from s)) g last → IsMade (numbered_group number p s) number g last
 unfolding numbered_group rest_of
 group_made number p s g last h = made_is number (gathered_within RUN_LIMIT p true (gathered_from s)) g last h
 
--- the engine after such a group
+-- The engine after such a group.
 pub engine_made : (number : ℕ) (p : Program) (s : State) (g : Gathered) (last before after : Option End) (groups : ℕ) (range left : Rse) (registers : Registers) (memory : Memory) (place : Place) (e : Engine)
     → IsMade (numbered_group number p s) number g last
     → e ≡ record { program = p; state = s; end = before; groups = groups; range = range }
@@ -50,7 +50,7 @@ engine_made number p s g last before after groups range left registers memory pl
     let frames = m.frames in
     rw (is, a, b, c, d, f, state, end, frames) refl
 
--- a group that begins at a place of the program is over after its RUN_LIMIT slots
+-- A group that begins at a place of the program is over after its RUN_LIMIT slots.
 pub comes_to_end : (p : Program) (s : State) (g : Gathered) (begins : Bool) → ParGroupEnds → IsProgram p → IsPlaceOf p.bundles s.place → HasRestOf (rest_of RUN_LIMIT p true (gathered_from s)) (rest_of 0 p begins g) → ⊥
 unfolding rest_of
 comes_to_end p s g begins ends program is h =
@@ -58,7 +58,7 @@ comes_to_end p s g begins ends program is h =
     let how = h.how in
     cc
 
--- what the rest of a group comes to is what the group does
+-- What the rest of a group comes to is what the group does.
 pub over_from : (group rest : GatheredGroup) (g : Gathered) (last : Option End) → HasRestOf group rest → HasGathered rest g last → HasGathered group g last
 over_from group rest g last h k =
     record { all = h.all ∙ k.all; end = h.end ∙ k.end; over = subst IsSome (sym h.how) k.over }

@@ -11,20 +11,20 @@ use Rattle.group_engine.specs.declared.branch_inputs.BranchInputs.{BranchInputs}
 use Rattle.group_engine.specs.Kept.{branch_inputs_of, branch_inputs_with, branch_inputs_after, Kept, keeping}
 use Rattle.group_engine.proofs.Arranging.{unmoved}
 
--- what some writes leave and then more of them
+-- What some writes leave and then more of them.
 steered_on : (vs ws : List Write) (s : BranchInputs) → branch_inputs_after ws (branch_inputs_after vs s) ≡ branch_inputs_after (vs ++ ws) s
 steered_on [] ws s = refl
 steered_on (v ∷ vs) ws s = steered_on vs ws (branch_inputs_with v s)
 
--- keeping some writes and then more of them keeps them all
+-- Keeping some writes and then more of them keeps them all.
 pub kept_on : (vs ws : List Write) (k : Kept) → keeping ws (keeping vs k) ≡ keeping (vs ++ ws) k
 kept_on vs ws k = rw (append_assoc, steered_on vs ws k.latest) refl
 
--- keeping none changes nothing
+-- Keeping none changes nothing.
 pub kept_none : (k : Kept) → keeping [] k ≡ k
 kept_none k = rw append-nil refl
 
--- one write
+-- One write.
 steered_by : (w : Write) (r : Registers) → branch_inputs_with w (branch_inputs_of r) ≡ branch_inputs_of (put w r)
 steered_by (SetStatic n c) r = refl
 steered_by (SetCell n c) r = refl

@@ -24,7 +24,7 @@ resized_all zero (c ∷ cells) h = absurd (omega arith)
 resized_all (suc n) [] h = absurd (omega arith)
 resized_all (suc n) (c ∷ cells) h = ap (λ cs. c ∷ cs) (resized_all n cells (omega arith))
 
--- what a loop that resizes goes by
+-- What a loop that resizes goes by.
 pub ruleset resizing = (resized_take, resized_push, resized_all)
 
 -- The resized list has as many cells as its count.

@@ -22,7 +22,7 @@ use Rattle.ia_meaning.specs.NumberedRuns.{numbered_group, numbered_run}
 use Rattle.ia_meaning.proofs.WholeRuns.{range_appended}
 use Rattle.group_engine.specs.Engine.{Engine, lasting, after_run, after_group, unless_ended, groups_further, end_of}
 
--- an end that is no limit
+-- An end that is no limit.
 abbrev IsNoLimit : Option End → Type 0
 IsNoLimit (Some (Limit place)) = ⊥
 IsNoLimit end = ⊤
@@ -46,7 +46,7 @@ within_no_limit (suc most) p begins g =
     slot_no_limit p first g o o.next (gathered_within most p false (gathers first g o (place_after g.place (next_of p.bundles g.place))))
     (within_no_limit most p false (gathers first g o (place_after g.place (next_of p.bundles g.place))))
 
--- no group ends a run by a limit
+-- No group ends a run by a limit.
 group_no_limit : (number : ℕ) (p : Program) (s : State) → IsNoLimit (numbered_group number p s).end
 unfolding numbered_group
 group_no_limit number p s = within_no_limit RUN_LIMIT p true (gathered_from s)
@@ -57,12 +57,12 @@ lasts (Break imm place) h = refl
 lasts (Limit place) h = absurd h
 lasts (Fault kind place) h = refl
 
--- after an end nothing changes any more
+-- After an end nothing changes any more.
 pub further_ended : (n number : ℕ) (e : Engine) (end : End) → e.end ≡ Some end → groups_further n number e ≡ e
 further_ended zero number e end is = refl
 further_ended (suc n) number e end is = rw is refl
 
--- where there is none, one group is run, and the rest
+-- Where there is none, one group is run, and the rest.
 pub further_on : (left number : ℕ) (e : Engine) → e.end ≡ None → 0 < left → groups_further left number e ≡ groups_further (left - 1) number (after_group (numbered_group number e.program e.state) e)
 further_on zero number e none some = absurd (omega (arith, some))
 further_on (suc n) number e none some =
@@ -81,7 +81,7 @@ record HasRest (e after : Engine) (run : Run) : Type 0 where
 ends_at : (e : Engine) (end : End) → e.end ≡ Some end → end_of e ≡ end
 ends_at e end is = rw is refl
 
--- a group, and the rest of the run
+-- A group, and the rest of the run.
 group_step : (n number : ℕ) (e : Engine) (g : Group) (event : GroupEvent) (rest : Run) → (g.end ≡ None → HasRest (after_group g e) (groups_further n number (after_group g e)) rest) → (end : Option End) → g.end ≡ end → IsNoLimit end
     → HasRest e (groups_further n number (after_group g e)) (run_by g event end rest)
 group_step n number e g event rest goes (Some end) is limit =
@@ -119,7 +119,7 @@ further_is_run n number e none = after_is_run e (groups_further n number e) (num
 pub further_ends : (n number : ℕ) (e : Engine) → e.end ≡ None → end_of (groups_further n number e) ≡ (numbered_run e.program n number e.state).end
 further_ends n number e none = let h = rest_is n number 1 e none in h.ends
 
--- a test that finds no end
+-- A test that finds no end.
 pub runs_on : (end : Option End) → is_some end ≡ false → end ≡ None
 runs_on None e = refl
 runs_on (Some end) e = absurd (cc)

@@ -46,10 +46,10 @@ sees_no_branch f n e = refl
 pub branch_unseen : (f : Action) (base now : List ℕ) → target_register f ≡ None → base ≡ seen_in (sees_branch f) 0 base now
 branch_unseen f base now e = sym (seen_none (sees_branch f) (λ n. sees_no_branch f n e) 0 base now)
 
--- what it sees where it has a target, and where it has none
+-- What it sees where it has a target, and where it has none.
 pub ruleset target_sights = (static_seen, static_unseen, branch_seen, branch_unseen)
 
--- what a branch of an action sees of the registers that steer it, where its qualifying predicate stands at this place
+-- What a branch of an action sees of the registers that steer it, where its qualifying predicate stands at this place.
 abbrev pub sighted : Action → ℕ → BranchInputs → BranchInputs → BranchInputs
 sighted f place latest start = record {
   predicates = seen_in (λ n. n == place) 0 (seen_in (sees_static f) 0 start.predicates latest.predicates) latest.predicates;
@@ -57,7 +57,7 @@ sighted f place latest start = record {
   pfs = if sees_pfs f then latest.pfs else start.pfs;
 }
 
--- a branch sees its qualifying predicate
+-- A branch sees its qualifying predicate.
 guard_seen : (f : Action) (place : ℕ) (base now : List Bool) → is_branch f ≡ true → seen_in (λ n. n == place) 0 base now ≡ seen_in (λ n. is_branch f && (n == place)) 0 base now
 guard_seen f place base now e = rw e refl
 

@@ -37,7 +37,7 @@ pub does_next : (p : Program) (g : Gathered) (slot : Slot) (e : SlotEffect) (pfs
 does_next p g slot e pfs next does =
     let i = slot_is p.bundles g.place slot next.at in record { of = i; does = does i.insn i.here }
 
--- the places to which it goes on are the program's
+-- The places to which it goes on are the program's.
 pub falls_inside : (p : Program) (g : Gathered) (slot : Slot) (next : Place) → ComesNext p g slot → slot.next ≡ Some next → IsPlaceOf p.bundles next
 falls_inside p g slot next h to =
     let i = slot_is p.bundles g.place slot h.at in

@@ -27,7 +27,7 @@ module _ (p : Program) (begins : Bool) (g : Gathered) (insn : Insn) (o : Outcome
   abbrev whole : Outcome → ℕ → GatheredGroup
   whole o most = gathered_by p first g o o.next (rest o most)
 
-  -- a group is its next slot and its rest
+  -- A group is its next slot and its rest.
   stepped : (most : ℕ) → rest_of (suc most) p begins g ≡ whole (settled (next_of p.bundles g.place) g.memory o.next o) most
   unfolding rest_of
   stepped most = rw (at, is) refl

@@ -74,11 +74,11 @@ executed_is insn g slot action qp = of (is_branch slot.action) refl
     of true e = rw (← qp) (guard_seen insn (now_of g) g.base (ap is_branch action ∙ e) (length_predicates g.writes g.base))
     of false e = rw (← qp, view_plain insn (now_of g) g.base (ap is_branch action ∙ e)) refl
 
--- under p0 a slot is executed
+-- Under p0 a slot is executed.
 pub executed_always : (g : Gathered) (slot : Slot) → slot.qp ≡ 0 → is_executed slot g ≡ true
 executed_always g slot e = holds_zero_seen g.base (if is_branch slot.action then branch_inputs_of (now_of g) else branch_inputs_of g.base) slot.qp e
 
--- the slot at the place of a group comes next
+-- The slot at the place of a group comes next.
 pub comes_next : (p : Program) (g : Gathered) (slot : Slot) → IsProgram p → slot_at p.bundles g.place ≡ Some slot → ComesNext p g slot
 comes_next p g slot program at =
     let i = slot_is p.bundles g.place slot at in

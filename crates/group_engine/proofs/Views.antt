@@ -14,7 +14,7 @@ cell_seen r s None = refl
 cell_seen r s (Some (Static n)) = refl
 cell_seen r s (Some (Stacked n)) = refl
 
--- general registers are the same
+-- General registers are the same.
 pub look_seen : (r : Registers) (s : BranchInputs) (n : ℕ) → look r n ≡ look (seen_by r s) n
 unfolding look
 look_seen r s zero = refl

@@ -24,11 +24,11 @@ use Rattle.ia64_top.specs.Runs.{Printing, run_of, end_status, watch_text}
 use Rattle.ia64_top.specs.Readings.{as_either}
 use Rattle.ia64_top.specs.Output.{is_too_long, IsSilent, IsRunAs, IsCommandOutput, IsOutput, GivesOutput, GivesPart}
 
--- arguments are one command
+-- arguments are one command.
 pub same_command : (arguments : List (List ℕ)) (c d : Command) → command_of arguments ≡ Some c → command_of arguments ≡ Some d → c ≡ d
 same_command arguments c d e f = let same : Some c ≡ Some d = sym e ∙ f in cc
 
--- what a command writes of what it reads is the output for all that there is
+-- What a command writes of what it reads is the output for all that there is.
 output_within : (command : Command) (ws : List WatchState) (all read bytes : List ℕ) (status : Status) → IsReadOf command read all → length read ≤ INPUT_LIMIT → IsCommandOutput command ws read bytes status
     → MatchBool (is_too_long command all) (IsSilent TooLong bytes status) (IsCommandOutput command ws all bytes status)
 output_within (Trial seed bundles) ws all read bytes status is within o = o
@@ -51,7 +51,7 @@ pub too_long : (arguments : List (List ℕ)) (command : Command) (ws : List Watc
 too_long arguments command ws None given e reads h = tt
 too_long arguments command ws (Some input) given e reads h = ([], output_beyond arguments command ws input e reads h, Appends-nil given)
 
--- arguments that are no command write nothing
+-- arguments that are no command write nothing.
 pub no_command : (arguments : List (List ℕ)) (ws : List WatchState) (left given : Option (List ℕ)) → command_of arguments ≡ None → IfSome left (λ input. GivesOutput arguments ws input given given Words)
 no_command arguments ws None given e = tt
 no_command arguments ws (Some input) given e = ([], rw e (refl, refl), Appends-nil given)
@@ -64,7 +64,7 @@ pub given_in_part : (arguments : List (List ℕ)) (command : Command) (ws : List
 given_in_part arguments command ws None given new input bytes status e whole within o part = tt
 given_in_part arguments command ws (Some l) given new input bytes status e whole within o part = (bytes, status, output_of arguments command ws l input bytes status e whole within o, part)
 
--- a slice of what was read is what was read
+-- A slice of what was read is what was read.
 pub same_read : (command : Command) (left : Option (List ℕ)) (slice input : List ℕ) → slice ≡ input → IfSome left (IsReadOf command input) → IfSome left (IsReadOf command slice)
 same_read command left slice input e whole = subst (λ i. IfSome left (IsReadOf command i)) (sym e) whole
 
@@ -79,11 +79,11 @@ short_either : ImageSize → (p : Program) (input : List ℕ) → (¬ BeginsAsIm
 short_either size p input within (inl image) = short_image size p input image.1
 short_either size p input within (inr text) = within text.0
 
--- a longer input is read as no program
+-- A longer input is read as no program.
 none_beyond : ImageSize → (P : Program → Type 0) (input : List ℕ) → INPUT_LIMIT < length input → OfProgram P input
 none_beyond size P input h within p g = absurd (omega (arith, h, short_either size p input within g))
 
--- what is said of the input that was read whole
+-- What is said of the input that was read whole.
 of_whole : (P : Program → Type 0) (l input : List ℕ) → input ≡ l → ((p : Program) → as_either.Gives input p → P p) → OfProgram P l
 of_whole P l input whole h within p g = h p (subst (λ i. as_either.Gives i p) (sym whole) g)
 
@@ -110,7 +110,7 @@ pub judged_beyond : ImageSize → (arguments : List (List ℕ)) (left : Option (
 judged_beyond size arguments None h = tt
 judged_beyond size arguments (Some input) h = λ command e judges. none_beyond size (λ p. (TooLong ≡ Violated) ↔ (¬ HasNoViolation p)) input h
 
--- what is judged is read whole
+-- What is judged is read whole.
 judged_whole : (command : Command) (input l : List ℕ) → Judges command → IsReadOf command input l → input ≡ l
 judged_whole Check input l judges is = is
 judged_whole (Run groups) input l judges is = is
@@ -135,7 +135,7 @@ pub ended_beyond : ImageSize → (arguments : List (List ℕ)) (left : Option (L
 ended_beyond size arguments None h = tt
 ended_beyond size arguments (Some input) h = λ command groups e runs. none_beyond size (λ p. HasNoViolation p → TooLong ≡ end_status (run_of p groups).end) input h
 
--- what is run is read whole
+-- What is run is read whole.
 pub run_whole : (command : Command) (groups : ℕ) (input l : List ℕ) → groups_of command ≡ Some groups → IsReadOf command input l → input ≡ l
 run_whole (Run n) groups input l runs read = read
 run_whole (Watch n) groups input l runs read = read
@@ -212,17 +212,17 @@ not_run_within (Watch groups) (Some l) ws old now input bytes status whole o oth
     λ none. not_run (ran_nothing (watch_text ws) groups input bytes status o (λ p g. none p (subst (λ i. as_either.Gives i p) whole g)))
 not_run_within command (Some l) ws old now input bytes status whole o other not_run = λ none. other (λ watch. watch)
 
--- more bytes than the limit were there where more were taken
+-- More bytes than the limit were there where more were taken.
 pub beyond : (P : Type 0) (left new : Option (List ℕ)) → P → IfSome left (λ l. P ↔ LosesFirst (INPUT_LIMIT + 1) l new) → IfSome left (λ l. INPUT_LIMIT < length l)
 beyond P None new p h = tt
 beyond P (Some l) new p h = let t = (h.0 p).0 in omega arith
 
--- a source that is as it was lost no byte
+-- A source that is as it was lost no byte.
 pub untouched : (P : Type 0) (left : Option (List ℕ)) → ¬ P → IfSome left (λ l. P ↔ LosesFirst (INPUT_LIMIT + 1) l left)
 untouched P None other = tt
 untouched P (Some l) other = (λ p. absurd (other p), λ loses. let e : l ≡ drop (INPUT_LIMIT + 1) l = cc in absurd (omega (arith, loses.0, ap length e, length-drop (INPUT_LIMIT + 1) l)))
 
--- what a command answers to an input within the limit is never that it is too long
+-- What a command answers to an input within the limit is never that it is too long.
 not_too_long : (command : Command) (ws : List WatchState) (input bytes : List ℕ) → IsCommandOutput command ws input bytes TooLong → ⊥
 not_too_long command.Build ws input bytes o = o
 not_too_long command.Stops ws input bytes o = o

@@ -145,7 +145,7 @@ clashes_of one c ws input bytes status is o p g = violated c (subst (IsCommandOu
     violated (Trial seed bundles) o g = of_judgement p (trial_program seed bundles) bytes (sym g) o
     violated k o g = absurd o
 
--- the program of all that there is is that of what is read
+-- The program of all that there is is that of what is read.
 of_read : (c : Command) (input l : List ℕ) (p : Program) → IsReadOf c input l → IsProgramOf c l p → IsProgramOf c input p
 of_read (Trial seed bundles) input l p is g = g
 of_read c input l p is g = subst (λ i. IsProgramOf c i p) (sym is) g

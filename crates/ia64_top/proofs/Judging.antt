@@ -20,11 +20,11 @@ some_of : (all : List Violation) → 1 ≤ length all → (v : Violation) × Con
 some_of [] l = absurd (omega arith)
 some_of (v ∷ vs) l = (v, (0, omega arith, refl))
 
--- a program with a report isn't free
+-- A program with a report isn't free.
 not_free : (p : Program) (report : Report) → IsReport p report → ¬ HasNoViolation p
 not_free p report r free = let m = some_of r.all r.some in free m.0 (r.list.only m.0 m.1)
 
--- the verdict tells whether the program is free
+-- The verdict tells whether the program is free.
 done_of_verdict : (p : Program) (v : Verdict) → IsVerdict p v → ((verdict_status v ≡ Done) ↔ HasNoViolation p)
 done_of_verdict p (Accepted q) exact = (λ e. exact.1, λ f. refl)
 done_of_verdict p (Violations r) exact = (λ e. cc, λ f. absurd (not_free p r exact f))
@@ -33,7 +33,7 @@ violated_of_verdict : (p : Program) (v : Verdict) → IsVerdict p v → ((verdic
 violated_of_verdict p (Accepted q) exact = (λ e. cc, λ n. absurd (n exact.1))
 violated_of_verdict p (Violations r) exact = (λ e. not_free p r exact, λ n. refl)
 
--- a verdict as it is printed and answered
+-- A verdict as it is printed and answered.
 pub judgement_of : (p : Program) (v : Verdict) (bytes : List ℕ) (status : Status) → IsProgram p → IsVerdict p v → (bytes ≡ verdict_text v) × (status ≡ verdict_status v) → IsJudgement p bytes status
 judgement_of p v bytes status program exact told = record { program = program; verdict = v; exact = exact; printed = told.0; tells = told.1 }
 
@@ -43,7 +43,7 @@ done_of_judgement p bytes status j = subst (λ s. (s ≡ Done) ↔ HasNoViolatio
 pub violated_of_judgement : (p : Program) (bytes : List ℕ) (status : Status) → IsJudgement p bytes status → ((status ≡ Violated) ↔ (¬ HasNoViolation p))
 violated_of_judgement p bytes status j = subst (λ s. (s ≡ Violated) ↔ (¬ HasNoViolation p)) (sym j.tells) (violated_of_verdict p j.verdict j.exact)
 
--- each row tells the judgement of the program, or the refusal
+-- Each row tells the judgement of the program, or the refusal.
 pub told_of_check : (r : InputReading) (input bytes : List ℕ) (status : Status) → IsCheckedAs r input bytes status → IsTold r IsJudgement input bytes status
 told_of_check r input bytes Done o = inl o
 told_of_check r input bytes Violated o = inl o

@@ -32,21 +32,21 @@ use Rattle.ia64_top.proofs.Outputs.{GivesOne, RefusesNone, IsTold}
 use Rattle.ia64_top.proofs.Running.{run_is}
 use Rattle.ia64_top.proofs.Answering.{output_of, TellsOfGroups, groups_beyond, groups_within}
 
--- the answer of a program
+-- The answer of a program.
 abbrev pub IsNumberedRunAnswer : (groups number : ℕ) → Program → List ℕ → Status → Type 0
 IsNumberedRunAnswer groups number p bytes status = IsNumberedRunOf p groups number bytes status
 
--- the end of the run tells the row of its status
+-- The end of the run tells the row of its status.
 by_end : (groups number : ℕ) (r : InputReading) (input : List ℕ) (p : Program) (bytes : List ℕ) (status : Status) (e : End) → r.Gives input p → status ≡ end_status e → IsNumberedRunOf p groups number bytes status → IsNumberedRunAs groups number r input bytes status
 by_end groups number r input p bytes status (end.Break imm place) g is = subst (λ s. IsNumberedRunOf p groups number bytes s → IsNumberedRunAs groups number r input bytes s) (sym is) (λ o. (p, g, o))
 by_end groups number r input p bytes status (end.Limit place) g is = subst (λ s. IsNumberedRunOf p groups number bytes s → IsNumberedRunAs groups number r input bytes s) (sym is) (λ o. (p, g, o))
 by_end groups number r input p bytes status (end.Fault kind place) g is = subst (λ s. IsNumberedRunOf p groups number bytes s → IsNumberedRunAs groups number r input bytes s) (sym is) (λ o. (p, g, o))
 
--- the answer of the program that an input is read as is that of the input
+-- The answer of the program that an input is read as is that of the input.
 pub numbered_run_is : (groups number : ℕ) (r : InputReading) (input : List ℕ) (p : Program) (bytes : List ℕ) (status : Status) → r.Gives input p → IsNumberedRunOf p groups number bytes status → IsNumberedRunAs groups number r input bytes status
 numbered_run_is groups number r input p bytes status g o = by_end groups number r input p bytes status (numbered_run_of p groups number).end g o.ends o
 
--- each row tells the answer of the program, or the refusal
+-- Each row tells the answer of the program, or the refusal.
 pub told_of_numbered_run : (groups number : ℕ) (r : InputReading) (input bytes : List ℕ) (status : Status) → IsNumberedRunAs groups number r input bytes status → IsTold r (IsNumberedRunAnswer groups number) input bytes status
 told_of_numbered_run groups number r input bytes Done o = inl o
 told_of_numbered_run groups number r input bytes Limit o = inl o
@@ -96,7 +96,7 @@ run_given law zero parallel groups number p bytes status o free =
       ends = o.ends ∙ ap (λ (r : WholeRun). end_status r.end) same;
     }
 
--- the arguments of a run are a command
+-- The arguments of a run are a command.
 run_command : (groups : ℕ) → 1 ≤ groups → groups ≤ GROUP_LIMIT → command_of (run_arguments groups) ≡ Some (Run groups)
 run_command groups some few = rw (number_of_numeral 1 GROUP_LIMIT (decimal groups) groups (omega arith) (some, few, refl)) refl
 

@@ -14,14 +14,14 @@ use Rattle.ia64_top.specs.Numbers.{number_between, BeginsAsNumeral, OneNumeral}
 own : IsNumeralModel (AllDigits 10) (digits_value 10)
 own = numerals_by_value (AllDigits 10) tells_digits
 
--- the argument is the decimal text of the number, which is in range
+-- The argument is the decimal text of the number, which is in range.
 abbrev pub IsNumeralOf : ℕ → ℕ → List ℕ → ℕ → Type 0
 IsNumeralOf least most argument n = (least ≤ n) × (n ≤ most) × (argument ≡ decimal n)
 
 chosen : (a b c : Bool) (n : ℕ) → a ≡ true → b ≡ true → c ≡ true → (if a && b && c then Some n else None) ≡ Some n
 chosen a b c n ea eb ec = rw (ea, eb, ec) refl
 
--- what is there where a choice among three tests gave a number
+-- What is there where a choice among three tests gave a number.
 chosen_all : (a b c : Bool) (m n : ℕ) → (if a && b && c then Some m else None) ≡ Some n → (a ≡ true) × (b ≡ true) × (c ≡ true) × (m ≡ n)
 chosen_all true true true m n e = (refl, refl, refl, cc)
 chosen_all true true false m n e = cc
@@ -44,7 +44,7 @@ numeral_of_number least most argument n e =
 pub one_numeral : OneNumeral
 one_numeral least most argument n small = (numeral_of_number least most argument n, number_of_numeral least most argument n small)
 
--- an argument that is no number's decimal text
+-- An argument that is no number's decimal text.
 none_of : (least most : ℕ) (argument : List ℕ) → ((n : ℕ) → IsNumeralOf least most argument n → ⊥) → (found : Option ℕ) → number_between least most argument ≡ found → number_between least most argument ≡ None
 none_of least most argument none None e = e
 none_of least most argument none (Some n) e = absurd (none n (numeral_of_number least most argument n e))
@@ -52,7 +52,7 @@ none_of least most argument none (Some n) e = absurd (none n (numeral_of_number 
 pub no_number_there : (least most : ℕ) (argument : List ℕ) → ((n : ℕ) → IsNumeralOf least most argument n → ⊥) → None ≡ number_between least most argument
 no_number_there least most argument none = sym (none_of least most argument none (number_between least most argument) refl)
 
--- a number's text is `0`, or begins with another digit
+-- A number's text is `0`, or begins with another digit.
 text_begins : (n : ℕ) → n < 2 ^ 64 → BeginsAsNumeral (decimal n)
 text_begins zero small = rw (decimal_digit 0 (omega arith)) (omega arith, omega arith, omega arith, λ e. refl)
 text_begins (suc n) small =
@@ -68,7 +68,7 @@ pub no_text : (least most : ℕ) (argument : List ℕ) → most < 2 ^ 64 → ¬ 
 no_text least most argument small other =
     no_number_there least most argument (λ n h. other (subst IsUtf8 (sym h.2) (IsUtf8-from_ascii (decimal n) (IsAscii-decimal n (omega (arith, small, h.1))))))
 
--- a number's text is read as the number
+-- A number's text is read as the number.
 numeral_parses : {E : Type 0} (least most : ℕ) (argument : List ℕ) (r : Result ℕ E) (n : ℕ) → most < 2 ^ 64 → ParsesUnsigned 64 10 argument r → IsNumeralOf least most argument n → r ≡ Ok n
 numeral_parses least most argument r n small parsed h = parse-decimal 64 n argument r (omega (arith, small, h.1)) (omega (arith, small, h.1)) h.2 parsed
 

@@ -24,13 +24,13 @@ use Rattle.ia64_top.proofs.Answering.{same_command, run_whole}
 use Rattle.ia64_top.specs.Inputs.{IsReadOf}
 use Rattle.ia64_top.proofs.Judging.{done_of_judgement}
 
--- the program that the input is read as, without violations
+-- The program that the input is read as, without violations.
 record Accepts (input : List ℕ) (p : Program) : Type 0 where
   gives : as_either.Gives input p
   program : IsProgram p
   free : HasNoViolation p
 
--- what a run answers of an accepted program
+-- What a run answers of an accepted program.
 record RunsAccepted (text : Printing) (groups : ℕ) (input bytes : List ℕ) (status : Status) (p : Program) : Type 0 where
   accepts : Accepts input p
   runs : IsRunOf text p groups bytes status
@@ -38,7 +38,7 @@ record RunsAccepted (text : Printing) (groups : ℕ) (input bytes : List ℕ) (s
 of_run : (text : Printing) (groups : ℕ) (input bytes : List ℕ) (status : Status) (p : Program) → as_either.Gives input p → IsRunOf text p groups bytes status → RunsAccepted text groups input bytes status p
 of_run text groups input bytes status p g o = record { accepts = record { gives = g; program = o.program; free = o.free }; runs = o }
 
--- a state was printed
+-- A state was printed.
 abbrev Ran : Status → Type 0
 Ran Done = Unit {0}
 Ran Limit = Unit {0}
@@ -58,7 +58,7 @@ ran Limit c t = tt
 ran Faulted c t = tt
 ran status c t = absurd t
 
--- a program that is free is order independent, and what is read is one program
+-- A program that is free is order independent, and what is read is one program.
 robust_given : FreeIsRobust → GivesOne as_either → (input : List ℕ) (q : Program) → as_either.Gives input q → IsProgram q → HasNoViolation q → (p : Program) → as_either.Gives input p → IsRobust p
 robust_given law one input q gives program free p g = subst IsRobust (one input q p gives g) (law q program free)
 
@@ -141,7 +141,7 @@ run_in_each_order law zero one arguments c ws (Some l) old new input bytes statu
           each_order_of law zero one d groups ws input bytes status runs t (subst (λ k. IsCommandOutput k ws input bytes status) is o) p (subst (λ i. as_either.Gives i p) (sym read) g),
     )
 
--- an input that is too long tells nothing of its program
+-- An input that is too long tells nothing of its program.
 pub promised_beyond : (arguments : List (List ℕ)) (left : Option (List ℕ)) → IfSome left (Promises arguments TooLong)
 promised_beyond arguments None = tt
 promised_beyond arguments (Some l) = λ c f t p g. absurd t

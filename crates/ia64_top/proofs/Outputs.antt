@@ -13,7 +13,7 @@ use Rattle.ia64_top.specs.Readings.{InputReading, IsRefusal, as_image, as_bundle
 use Rattle.image_form.specs.Images.{BeginsAsImage}
 use Rattle.ia64_top.specs.Output.{IsMadeOutput}
 
--- what is there where a call went well, told by what its contract tells
+-- What is there where a call went well, told by what its contract tells.
 pub if_ok : {T E : Type 0} {P Q : T → Type 0} (result : Result T E) → IfOk result P → ((x : T) → P x → Q x) → IfOk result Q
 if_ok (Ok x) p tell = tell x p
 if_ok (Err e) p tell = tt
@@ -65,12 +65,12 @@ pub holds_where_told : (r : InputReading) (Tells : Program → List ℕ → Stat
 holds_where_told r Tells P holds one none input bytes status (inl t) p g = subst (λ x. P x status) (one input t.0 p t.1 g) (holds t.0 bytes status t.2)
 holds_where_told r Tells P holds one none input bytes status (inr t) p g = absurd (none input p bytes g t.0)
 
--- the output of a refusal
+-- The output of a refusal.
 pub is_refusal : (r : InputReading) (Makes : Program → List ℕ → Type 0) (input bytes : List ℕ) (status : Status) → r.Refuses input bytes → status ≡ Refused
     → IsMadeOutput r Makes input bytes status
 is_refusal r Makes input bytes status refused e = subst (IsMadeOutput r Makes input bytes) (sym e) refused
 
--- an input that begins as an image does is read as one, and any other as a text
+-- An input that begins as an image does is read as one, and any other as a text.
 pub image_taken : (input : List ℕ) → BeginsAsImage input
     → (taken : Result Program Answer) → MatchResult taken (as_image.Gives input) (λ a. IsRefusal as_image input a.bytes.items a.status)
     → MatchResult taken (as_either.Gives input) (λ a. IsRefusal as_either input a.bytes.items a.status)

@@ -9,7 +9,7 @@ line_more {X} f items i d short =
     let x = get_or items i d in
     ap (flat_map f) (take_more items i d short) ∙ flat_map-append f (take i items) (x ∷ []) ∙ ap (λ l. flat_map f (take i items) ++ l) (append-nil (f x))
 
--- a text that grows by the next line
+-- A text that grows by the next line.
 pub grows : {X : Type 0} (f : X → List ℕ) (xs items : List X) (i : ℕ) (d : X) (front old new : List ℕ) → xs ≡ items → i < length xs
     → new ≡ old ++ f (get_or xs i d) → old ≡ front ++ flat_map f (take i items) → new ≡ front ++ flat_map f (take (i + 1) items)
 grows {X} f xs items i d front old new same short grown before =
@@ -17,6 +17,6 @@ grows {X} f xs items i d front old new same short grown before =
     let g : new ≡ old ++ f (get_or items i d) = subst (λ (l : List X). new ≡ old ++ f (get_or l i d)) same grown in
     g ∙ ap (λ l. l ++ f (get_or items i d)) before ∙ append_assoc front (flat_map f (take i items)) (f (get_or items i d)) ∙ ap (λ l. front ++ l) (sym (line_more f items i d s))
 
--- a text of four pieces
+-- A text of four pieces.
 pub four_pieces : (first second third fourth one two new whole : List ℕ) → one ≡ first → two ≡ (one ++ second) ++ third → new ≡ two ++ fourth → ((first ++ second) ++ third) ++ fourth ≡ whole → new ≡ whole
 four_pieces first second third fourth one two new whole a b c e = c ∙ ap (λ l. l ++ fourth) (b ∙ ap (λ l. (l ++ second) ++ third) a) ∙ e

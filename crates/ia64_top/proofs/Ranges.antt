@@ -8,7 +8,7 @@ use Rattle.ia64_top.specs.Numbers.{number_between}
 use Rattle.ia64_top.specs.Arguments.{trace_command, groups_command, trial_command, command_of, HasNumbersInRange}
 use Rattle.ia64_top.proofs.Numerals.{IsNumeralOf, numeral_of_number}
 
--- what a number that was found in a range is
+-- What a number that was found in a range is.
 abbrev IsFound : ℕ → ℕ → List ℕ → Option ℕ → Type 0
 IsFound least most argument found = IfSome found (IsNumeralOf least most argument)
 
@@ -19,7 +19,7 @@ found_is least most argument (Some n) e = numeral_of_number least most argument 
 abbrev InRange : Option Command → Type 0
 InRange found = IfSome found HasNumbersInRange
 
--- no argument alone has a number
+-- No argument alone has a number.
 argument_alone : (a b c d e f g : Bool) → InRange (if a then Some Build else if b then Some Stops else if c then Some Show else if d then Some Listing else if e then Some Wrap else if f then Some Lift else if g then Some Check else None)
 argument_alone true b c d e f g = tt
 argument_alone false true c d e f g = tt

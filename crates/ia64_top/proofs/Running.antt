@@ -34,18 +34,18 @@ use Rattle.ia64_top.proofs.Judging.{violated_of_judgement, done_where_free, viol
 abbrev pub IsRunAnswer : Printing → ℕ → Program → List ℕ → Status → Type 0
 IsRunAnswer text groups p bytes status = IsRunOf text p groups bytes status ⊎ IsJudgedViolated p bytes status
 
--- the end of the run tells the row of its status
+-- The end of the run tells the row of its status.
 by_end : (text : Printing) (groups : ℕ) (r : InputReading) (input : List ℕ) (p : Program) (bytes : List ℕ) (status : Status) (e : End) → r.Gives input p → status ≡ end_status e → IsRunOf text p groups bytes status → IsRunAs text groups r input bytes status
 by_end text groups r input p bytes status (end.Break imm place) g is = subst (λ s. IsRunOf text p groups bytes s → IsRunAs text groups r input bytes s) (sym is) (λ o. (p, g, o))
 by_end text groups r input p bytes status (end.Limit place) g is = subst (λ s. IsRunOf text p groups bytes s → IsRunAs text groups r input bytes s) (sym is) (λ o. (p, g, o))
 by_end text groups r input p bytes status (end.Fault kind place) g is = subst (λ s. IsRunOf text p groups bytes s → IsRunAs text groups r input bytes s) (sym is) (λ o. (p, g, o))
 
--- the answer of the program that an input is read as is that of the input
+-- The answer of the program that an input is read as is that of the input.
 pub run_of_program : (text : Printing) (groups : ℕ) (r : InputReading) (input : List ℕ) (p : Program) (bytes : List ℕ) (status : Status) → r.Gives input p → IsRunOf text p groups bytes status ⊎ IsJudgedViolated p bytes status → IsRunAs text groups r input bytes status
 run_of_program text groups r input p bytes status g (inl o) = by_end text groups r input p bytes status (run_of p groups).end g o.ends o
 run_of_program text groups r input p bytes status g (inr o) = subst (λ s. IsJudgement p bytes s → IsRunAs text groups r input bytes s) (sym o.1) (λ j. (p, g, j)) o.0
 
--- each row tells the answer of the program, or the refusal
+-- Each row tells the answer of the program, or the refusal.
 pub told_of_run : (text : Printing) (groups : ℕ) (r : InputReading) (input bytes : List ℕ) (status : Status) → IsRunAs text groups r input bytes status → IsTold r (IsRunAnswer text groups) input bytes status
 told_of_run text groups r input bytes Done o = inl (o.0, o.1, inl o.2)
 told_of_run text groups r input bytes Violated o = inl (o.0, o.1, inr (o.2, refl))
@@ -54,7 +54,7 @@ told_of_run text groups r input bytes Faulted o = inl (o.0, o.1, inl o.2)
 told_of_run text groups r input bytes Refused o = inr (o, refl)
 told_of_run text groups r input bytes status o = absurd o
 
--- a run has no violations
+-- A run has no violations.
 not_violated : (e : End) → end_status e ≡ Violated → ⊥
 not_violated (end.Break imm place) is = cc
 not_violated (end.Limit place) is = cc

@@ -8,7 +8,7 @@ use Rattle.ia_meaning.specs.State.{Registers}
 use Rattle.ia_meaning.specs.Names.{look}
 use Rattle.ia64_top.specs.Trials.{value_of}
 
--- the sum of what n registers from r8 on hold, modulo 2 to the power of 64
+-- The sum of what n registers from r8 on hold, modulo 2 to the power of 64.
 abbrev pub sum_of : Registers → ℕ → ℕ
 sum_of r count = sum_by value_of (map (look r) (range_with_len 8 count)) % 2 ^ 64
 

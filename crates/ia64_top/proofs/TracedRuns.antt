@@ -121,7 +121,7 @@ begins run events p first count m bytes program is few printed =
       printed = rw (printed, came, state_told run first p program, groups_are_told run events count first p program) refl;
     }
 
--- the next group, and then the rest
+-- The next group, and then the rest.
 told_on : (left : ℕ) (p : Program) (m : Progress) → 0 < left → m.end ≡ None → groups_told left p m ≡ line (event_text (event_further p m)) ++ told (group_further p m) ++ groups_told (left - 1) p (group_further p m)
 told_on zero p m some running = absurd (omega (arith, some))
 told_on (suc n) p m some running =
@@ -149,7 +149,7 @@ goes_on p groups text now next left bytes lined printed e t some running is_next
           ∙ ap (λ rest. bytes ++ rest) (sym (told_on left p now.progress some running)) ∙ t.printed);
     }
 
--- where the machine has come to the end, or no group is left
+-- Where the machine has come to the end, or no group is left.
 pub record HasBeenTraced (p : Program) (groups : ℕ) (text : List ℕ) (now : Execution) (bytes : List ℕ) : Type 0 where
   pub came : now.progress ≡ groups_further groups p (begun (zero_state p))
   pub printed : bytes ≡ text

@@ -41,7 +41,7 @@ ends_of_trial seed bundles bytes Done o = tt
 ends_of_trial seed bundles bytes Violated o = tt
 ends_of_trial seed bundles bytes status o = absurd o
 
--- a verdict with violations on the program
+-- A verdict with violations on the program.
 pub judged_trial : (seed bundles : ℕ) (p : Program) (bytes : List ℕ) (status : Status) → p ≡ trial_program seed bundles → IsJudgedViolated p bytes status → IsTrialOutput seed bundles bytes status
 judged_trial seed bundles p bytes status made judged =
     let j : IsJudgement (trial_program seed bundles) bytes status = subst (λ q. IsJudgement q bytes status) made judged.0 in
@@ -66,7 +66,7 @@ trial_of_progress run seed bundles p m e bytes made program free robust came end
       printed = subst (λ q. bytes ≡ trial_text seed bundles (run_of q bundles).end (length (run_of q bundles).events) (run_of q bundles).state.registers) made text;
     }
 
--- what is told of the arguments and the answer
+-- What is told of the arguments and the answer.
 pub tried : (arguments : List (List ℕ)) (command : Command) (ws : List WatchState) (input bytes : List ℕ) (status : Status) → command_of arguments ≡ Some command → IsCommandOutput command ws input bytes status
     → (seed bundles : ℕ) → command_of arguments ≡ Some (Trial seed bundles) → ((status ≡ Done) ↔ HasNoViolation (trial_program seed bundles)) × ((status ≡ Violated) ↔ (¬ HasNoViolation (trial_program seed bundles)))
 tried arguments command ws input bytes status e o seed bundles f =
@@ -86,7 +86,7 @@ pub gives_trial_part : (arguments : List (List ℕ)) (command : Command) (ws : L
 gives_trial_part arguments command ws input bytes status old new e o part seed bundles f =
     (bytes, status, subst (λ c. IsCommandOutput c ws input bytes status) (same_command arguments command (Trial seed bundles) e f) o, part)
 
--- a command that isn't `trial` tells nothing of one
+-- A command that isn't `trial` tells nothing of one.
 pub untried : (arguments : List (List ℕ)) (command : Command) → command_of arguments ≡ Some command → ¬ IsTrial (Some command) → (seed bundles : ℕ) → command_of arguments ≡ Some (Trial seed bundles) → ⊥
 untried arguments command e other seed bundles f = other (subst (λ c. IsTrial (Some c)) (same_command arguments (Trial seed bundles) command f e) tt)
 

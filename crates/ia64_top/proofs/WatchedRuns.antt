@@ -17,7 +17,7 @@ use Rattle.watch_seam.specs.Watchers.{WatchState}
 use Rattle.watch_seam.specs.Watching.{AwaitGroups, IsAmidGroup, IsCutShort, left_after, numbered, numbered_report, reports, reports_after, staying}
 use Rattle.watch_seam.proofs.Groups.{IsWatched, at_beginning, one_further, cut_amid, cut_between, cut_at_end, at_last}
 
--- a step opens one group at most, and none within a group
+-- A step opens one group at most, and none within a group.
 opened_groups : (m : Progress) → (opened m).groups ≤ m.groups + 1
 opened_groups m = elim (m.slots == 0) as (λ t. (if t then record m { groups = m.groups + 1; first = m.state.place } else m).groups ≤ m.groups + 1) [ true ↦ omega arith | false ↦ omega arith ]
 
@@ -61,7 +61,7 @@ pub one_group : (p : Program) (m : Progress) → (group_further p m).groups ≤ 
 unfolding group_further
 one_group p m = end_groups RUN_LIMIT p m
 
--- the events from there on
+-- The events from there on.
 events_are : (left : ℕ) (p : Program) (m : Progress) → 0 < left → m.end ≡ None → events_further left p m ≡ event_further p m ∷ events_further (left - 1) p (group_further p m)
 events_are zero p m some running = absurd (omega (arith, some))
 events_are (suc n) p m some running = let less : suc n - 1 ≡ n = omega arith in rw (less, running) refl
@@ -88,7 +88,7 @@ begins seen m groups text numbers list few room none from_0 =
       watched = at_beginning seen (events_further groups m.program m.progress) text numbers list room none from_0;
     }
 
--- what is watched from there on, the next group first
+-- What is watched from there on, the next group first.
 next_group : {B : Type 0} (seen : B → WatchState) (start : Execution) (groups : ℕ) (old : List WatchState) (now : Execution) (left : ℕ) (text numbers : List ℕ) (list : List B) (e : GroupEvent)
     → IsUnderWatch seen start groups old now left text numbers list → 0 < left → now.progress.end ≡ None → e ≡ event_further now.program now.progress
     → IsWatched seen (events_further groups start.program start.progress) old (e ∷ events_further (left - 1) start.program (group_further start.program now.progress)) text numbers list
@@ -114,20 +114,20 @@ goes_on seen start groups old now left text numbers list e next text_1 numbers_1
       watched = subst (λ m. IsWatched seen (events_further groups start.program start.progress) old (events_further (left - 1) start.program m) text_1 numbers_1 list_1) (sym came) watched;
     }
 
--- where the group couldn't be shown to all watchers
+-- Where the group couldn't be shown to all watchers.
 pub given_up : {B : Type 0} (seen : B → WatchState) (start : Execution) (groups : ℕ) (old : List WatchState) (now : Execution) (left : ℕ) (text numbers : List ℕ) (list : List B) (e : GroupEvent) (later : List WatchState)
     → IsUnderWatch seen start groups old now left text numbers list → 0 < left → now.progress.end ≡ None → e ≡ event_further now.program now.progress → IsAmidGroup (e ∷ []) 0 (map seen list) later
     → IsCutShort (events_further groups start.program start.progress) old later
 given_up seen start groups old now left text numbers list e later u some running is amid =
     cut_amid seen (events_further groups start.program start.progress) old e (events_further (left - 1) start.program (group_further start.program now.progress)) text numbers list later (next_group seen start groups old now left text numbers list e u some running is) amid
 
--- where it was given up between two groups
+-- Where it was given up between two groups.
 pub given_up_between : {B : Type 0} (seen : B → WatchState) (start : Execution) (groups : ℕ) (old : List WatchState) (now : Execution) (left : ℕ) (text numbers : List ℕ) (list : List B)
     → IsUnderWatch seen start groups old now left text numbers list → IsCutShort (events_further groups start.program start.progress) old (map seen list)
 given_up_between seen start groups old now left text numbers list u =
     cut_between seen (events_further groups start.program start.progress) old (events_further left start.program now.progress) text numbers list u.watched
 
--- where the machine has come to the end
+-- Where the machine has come to the end.
 pub record HasBeenWatched {B : Type 0} (seen : B → WatchState) (start : Execution) (groups : ℕ) (old : List WatchState) (now : Execution) (text numbers : List ℕ) (list : List B) : Type 0 where
   pub machine : now ≡ record start { progress = groups_further groups start.program start.progress }
   pub reported : text ++ flat_map numbered_report (zip numbers (map seen list)) ≡ reports (events_further groups start.program start.progress) (numbered old)
@@ -156,6 +156,6 @@ stay_over events other old now same is = subst (λ es. now ≡ staying es old) s
 pub cut_over : (events other : List GroupEvent) (old now : List WatchState) → events ≡ other → IsCutShort events old now → IsCutShort other old now
 cut_over events other old now same is = subst (λ es. IsCutShort es old now) same is
 
--- given up after all groups
+-- Given up after all groups.
 pub cut_after_all : (events other : List GroupEvent) (old now : List WatchState) → events ≡ other → now ≡ staying events old → IsCutShort other old now
 cut_after_all events other old now same is = subst (IsCutShort other old) (sym (stay_over events other old now same is)) (cut_at_end other old)

@@ -9,7 +9,7 @@ use Rattle.ia_insn.specs.Signed.{twos, FitsSigned, signed_of, flag}
 pub half : (width : ℕ) → 1 ≤ width → 2 ^ width ≡ 2 ^ (width - 1) + 2 ^ (width - 1)
 half width h = ap (λ k. 2 ^ k) (let e : width ≡ suc (width - 1) = omega arith in e) ∙ pow-suc 2 (width - 1) ∙ (omega arith)
 
--- two's complement and back
+-- two's complement and back.
 pub signed-twos : (width : ℕ) → 1 ≤ width → (z : ℤ) → FitsSigned width z → signed_of width (twos width z) ≡ z
 signed-twos width h (pos n) fit = rw (lt-ltb n (2 ^ (width - 1)) fit) refl
 signed-twos width h (negsuc n) fit =
@@ -22,7 +22,7 @@ pub twos-fits : (width : ℕ) → 1 ≤ width → (z : ℤ) → FitsSigned width
 twos-fits width h (pos n) fit = let e = half width h in omega arith
 twos-fits width h (negsuc n) fit = let p = pow_pos width in omega arith
 
--- a flag as a bit and back
+-- A flag as a bit and back.
 pub flag-back : (b : Bool) → eqb (flag b) 1 ≡ b
 flag-back false = refl
 flag-back true = refl

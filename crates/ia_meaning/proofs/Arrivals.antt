@@ -9,7 +9,7 @@ use Rattle.ia_program.specs.declared.relations.Relation.{Relation}
 use Rattle.ia_program.specs.Programs.{Program, IsProgram, relation_at, relations_at}
 use Rattle.ia_meaning.specs.Landings.{breaks_relation, are_both_one, arrived, IsBroken}
 
--- where a branch arrives it breaks no relation, and what holds of the entry whose address it is holds of it
+-- Where a branch arrives it breaks no relation, and what holds of the entry whose address it is holds of it.
 pub arrived_keeps : (p : Program) (low : List Bool) (o : Option ℕ) (Good : ℕ → Type 0) → IfSome o Good → IfOk (arrived p low o) (λ to. Good to × (breaks_relation p low to ≡ false))
 arrived_keeps p low None Good h = tt
 arrived_keeps p low (Some bundle) Good h = chosen (breaks_relation p low bundle) refl
@@ -18,7 +18,7 @@ arrived_keeps p low (Some bundle) Good h = chosen (breaks_relation p low bundle)
     chosen true e = tt
     chosen false e = (h, e)
 
--- of a list none of whose relations passes a test none passes it among those of a bundle
+-- Of a list none of whose relations passes a test none passes it among those of a bundle.
 none_passes : (test : Relation → Bool) (bundle : ℕ) (rs : List Relation) → ((n : ℕ) → n < length rs → test (relation_at rs n) ≡ false) → list_any test (relations_at rs bundle) ≡ false
 none_passes test bundle [] none = refl
 none_passes test bundle (r ∷ rs) none = kept (r.bundle == bundle) (none zero (omega arith)) (none_passes test bundle rs (λ n inside. none (suc n) (omega arith)))
@@ -27,7 +27,7 @@ none_passes test bundle (r ∷ rs) none = kept (r.bundle == bundle) (none zero (
     kept true first rest = grind arith
     kept false first rest = rest
 
--- one of the relations has this bundle and passes a test
+-- One of the relations has this bundle and passes a test.
 abbrev Passes : (Relation → Bool) → ℕ → List Relation → Type 0
 Passes test bundle rs = (n : ℕ) × (n < length rs) × ((relation_at rs n).bundle ≡ bundle) × (test (relation_at rs n) ≡ true)
 
@@ -55,7 +55,7 @@ passing_is_found test bundle (r ∷ rs) (suc n, inside, here, passes) = kept (r.
     kept true h = grind arith
     kept false h = h
 
--- the test of relations
+-- The test of relations.
 pub relation_decides : (p : Program) (low : List Bool) (bundle : ℕ) → IsTrue (breaks_relation p low bundle) ↔ IsBroken p low bundle
 relation_decides p low bundle = (
   (λ h. broken (passing_found (are_both_one low) bundle p.relations h)),
@@ -67,7 +67,7 @@ relation_decides p low bundle = (
         let ones = and_parts (get_or low (relation_at p.relations n).p false) (get_or low (relation_at p.relations n).q false) passes in
         record { n = n; inside = inside; here = here; one = ones.0; other = ones.1 }
 
--- among the first sixteen predicates of the zero state only p0 is 1
+-- Among the first sixteen predicates of the zero state only p0 is 1.
 zero_low : (n : ℕ) → 1 ≤ n → n ≤ 15 → get_or (true ∷ replicate 15 false) n false ≡ false
 zero_low zero some most = absurd (omega arith)
 zero_low (suc n) some most = get_or-replicate 15 n false false (omega arith)

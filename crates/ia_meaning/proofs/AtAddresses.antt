@@ -7,7 +7,7 @@ use Rattle.ia_meaning.specs.Landings.{is_entry, landing}
 use Rattle.ia_meaning.specs.Loads.{access_fault, loaded}
 use Rattle.ia_meaning.proofs.Sequences.{entry_decides}
 
--- an indirect branch to the address of an entry lands on it
+-- An indirect branch to the address of an entry lands on it.
 pub entry_at_address : (p : Program) (n : ℕ) → IsEntry p n → landing p (bundle_address n) ≡ Some n
 unfolding landing
 entry_at_address p n is =
@@ -30,6 +30,6 @@ byte_loaded bytes n =
     let number : data_address n - data_base ≡ n = omega arith in
     rw number (omega arith)
 
--- a load of one byte from the address of a data byte gives it
+-- A load of one byte from the address of a data byte gives it.
 pub byte_at_address : (bytes : List ℕ) (n : ℕ) → n < length bytes → (access_fault bytes (data_address n) 1 ≡ None) × (loaded bytes (data_address n) 1 ≡ get_or bytes n 0)
 byte_at_address bytes n h = (byte_access bytes n h, byte_loaded bytes n)

@@ -7,12 +7,12 @@ use Rattle.std.proofs.lemmas.List.Sorted.{IsPermutation-keeps, IsPermutation-ref
 use Rattle.ia_meaning.specs.WriteOrders.{item_at, others, head_of, tail_of, arranged_within, arranged}
 
 module _ {X : Type 0} where
-  -- one of the items is x, and these are the others
+  -- One of the items is x, and these are the others.
   abbrev IsTaken : List X → X → List X → Type 0
   IsTaken [] x others = ⊥
   IsTaken (y ∷ ys) x others = ((y ≡ x) × (others ≡ ys)) ⊎ ((rest : List X) × (others ≡ y ∷ rest) × IsTaken ys x rest)
 
-  -- the second list takes the items of the first one by one
+  -- The second list takes the items of the first one by one.
   abbrev AreTaken : List X → List X → Type 0
   AreTaken [] [] = ⊤
   AreTaken (x ∷ xs) [] = ⊥
@@ -22,7 +22,7 @@ module _ {X : Type 0} where
   all_taken [] = tt
   all_taken (x ∷ xs) = (xs, inl (refl, refl), all_taken xs)
 
-  -- two items are taken in either order
+  -- Two items are taken in either order.
   other_order : (xs : List X) (x : X) (r : List X) (z : X) (s : List X) → IsTaken xs x r → IsTaken r z s → (t : List X) × IsTaken xs z t × IsTaken t x s
   other_order [] x r z s a b = absurd a
   other_order (y ∷ ys) x r z s (inl a) b = (y ∷ s, inr (s, refl, subst (λ l. IsTaken l z s) a.1 b), inl (a.0, refl))
@@ -32,7 +32,7 @@ module _ {X : Type 0} where
       of (inl c) again = (ys, inl (c.0, refl), subst (λ l. IsTaken ys x l) (sym c.1) a)
       of (inr (p, f, c)) again = let g = again p c in (y ∷ g.0, inr (g.0, refl, g.1), inr (p, f, g.2))
 
-  -- an item that is taken from the second list may be taken first
+  -- An item that is taken from the second list may be taken first.
   taken_first : (ys xs : List X) (z : X) (s : List X) → AreTaken xs ys → IsTaken ys z s → (t : List X) × IsTaken xs z t × AreTaken t s
   taken_first [] xs z s p k = absurd k
   taken_first (y ∷ ys) xs z s (r, a, p) (inl k) = (r, subst (λ w. IsTaken xs w r) k.0 a, subst (AreTaken r) (sym k.1) p)
@@ -47,7 +47,7 @@ module _ {X : Type 0} where
   taken_in_turn (z ∷ zs) xs ys p (s, k, q) =
       let f = taken_first ys xs z s p k in (f.0, f.1, taken_in_turn zs f.0 s f.2 q)
 
-  -- an item that takes another one's place
+  -- An item that takes another one's place.
   replaced : (l : List X) (j : ℕ) (d x : X) → j < length l → (r : List X) × IsTaken l (get_or l j d) r × AreTaken (x ∷ r) (set l j x)
   replaced [] j d x h = absurd (omega arith)
   replaced (y ∷ l) zero d x h = (l, inl (refl, refl), all_taken (x ∷ l))
@@ -66,12 +66,12 @@ module _ {X : Type 0} where
   swapped [] i j h k = tt
   swapped (x ∷ l) i j h k = both_replaced (x ∷ l) i j x h k
 
-  -- a permutation takes the items one by one
+  -- A permutation takes the items one by one.
   permutation_takes : (xs ys : List X) → IsPermutation xs ys → AreTaken xs ys
   permutation_takes xs ys p =
       IsPermutation-keeps xs (AreTaken xs) (all_taken xs) (λ l i j h k q. taken_in_turn (swap l i j) xs l q (swapped l i j h k)) ys p
 
-  -- where the item that is taken stands
+  -- Where the item that is taken stands.
   place_taken : (x : X) (xs : List X) (y : X) (r : List X) → IsTaken (x ∷ xs) y r → (k : ℕ) × (k < suc (length xs)) × (item_at x xs k ≡ y) × (others x xs k ≡ r)
   place_taken x [] y r (inl e) = (0, zero-lt-suc _, e.0, sym e.1)
   place_taken x [] y r (inr (s, e, t)) = absurd t
@@ -84,7 +84,7 @@ module _ {X : Type 0} where
   length_left x (y ∷ ys) zero = refl
   length_left x (y ∷ ys) (suc k) = ap suc (length_left y ys k)
 
-  -- the code of items that are taken one by one
+  -- The code of items that are taken one by one.
   code_taken : (ys xs : List X) → AreTaken xs ys → (code : List ℕ) × (arranged_within (length xs) code xs ≡ ys)
   code_taken [] [] p = ([], refl)
   code_taken [] (x ∷ xs) p = absurd p
@@ -98,14 +98,14 @@ module _ {X : Type 0} where
           let count : length xs ≡ length r = sym (length_left x xs k) ∙ ap length others in
           (k ∷ code, rw (within, is, others, count, e) refl)
 
-  -- every permutation is the order under some code
+  -- Every permutation is the order under some code.
   pub permutation_has_code : (xs ys : List X) → IsPermutation xs ys → (code : List ℕ) × (arranged code xs ≡ ys)
   permutation_has_code xs ys p = code_taken ys xs (permutation_takes xs ys p)
 
   first_two_swapped : (x y : X) (l : List X) → IsPermutation (x ∷ y ∷ l) (y ∷ x ∷ l)
   first_two_swapped x y l = IsPermutation-swap (x ∷ y ∷ l) (y ∷ x ∷ l) 0 1 (omega arith) (omega arith) refl
 
-  -- one item goes to the front
+  -- One item goes to the front.
   to_front : (x : X) (xs : List X) (k : ℕ) → IsPermutation (x ∷ xs) (item_at x xs k ∷ others x xs k)
   to_front x [] k = IsPermutation-refl (x ∷ [])
   to_front x (y ∷ ys) zero = IsPermutation-refl (x ∷ y ∷ ys)
@@ -122,6 +122,6 @@ module _ {X : Type 0} where
       IsPermutation-trans (x ∷ xs) (item_at x xs k ∷ others x xs k) _ (to_front x xs k)
       (IsPermutation-cons (item_at x xs k) (others x xs k) _ (within_is_permutation n (tail_of code) (others x xs k)))
 
-  -- the order under a code is a permutation
+  -- The order under a code is a permutation.
   pub code_is_permutation : (code : List ℕ) (xs : List X) → IsPermutation xs (arranged code xs)
   code_is_permutation code xs = within_is_permutation (length xs) code xs

@@ -7,7 +7,7 @@ use Rattle.ia_program.specs.declared.ending.FaultKind.TheVariants.{Unaligned, Ba
 use Rattle.ia_program.specs.Addresses.{data_base}
 use Rattle.ia_meaning.specs.Loads.{access_fault, bytes_at, loaded, with_bytes, stored}
 
--- an access without a fault is aligned and in the data
+-- An access without a fault is aligned and in the data.
 pub record IsAccess (count address size : ℕ) : Type 0 where
   pub aligned : address % size ≡ 0
   pub above : data_base ≤ address
@@ -23,12 +23,12 @@ pub is_access : (bytes : List ℕ) (address size : ℕ) → access_fault bytes a
 unfolding access_fault
 is_access bytes address size h = by_tests (length bytes) address size _ _ refl refl h
 
--- a store leaves as many bytes
+-- A store leaves as many bytes.
 pub length-with_bytes : (n at x : ℕ) (bytes : List ℕ) → length (with_bytes bytes at n x) ≡ length bytes
 length-with_bytes zero at x bytes = refl
 length-with_bytes (suc n) at x bytes = length-with_bytes n (suc at) (x / 256) (set bytes at (x % 256)) ∙ length-set bytes at (x % 256)
 
--- a byte before or after those of the number
+-- A byte before or after those of the number.
 pub other_byte : (n at x k : ℕ) (bytes : List ℕ) → (k < at) ⊎ (at + n ≤ k) → get_or (with_bytes bytes at n x) k 0 ≡ get_or bytes k 0
 other_byte zero at x k bytes h = refl
 other_byte (suc n) at x k bytes h =
@@ -36,7 +36,7 @@ other_byte (suc n) at x k bytes h =
     let other : k ≢ at = λ e. elim h [ inl l ↦ omega arith | inr r ↦ omega arith ] in
     other_byte n (suc at) (x / 256) k (set bytes at (x % 256)) apart ∙ get_or-set_other bytes at k (x % 256) 0 other
 
--- what is read is what was written
+-- What is read is what was written.
 pub written_is_read : (n at x : ℕ) (bytes : List ℕ) → at + n ≤ length bytes → bytes_at (with_bytes bytes at n x) at n ≡ x % 2 ^ (8 * n)
 written_is_read zero at x bytes h = let e : x % 1 ≡ 0 = omega arith in sym e
 written_is_read (suc n) at x bytes h =
@@ -47,7 +47,7 @@ written_is_read (suc n) at x bytes h =
     let split : x % 2 ^ (8 * suc n) ≡ x / 256 % 2 ^ (8 * n) * 256 + x % 256 = ap (λ k. x % 2 ^ k) e ∙ mod-pow-add x (8 * n) 8 in
     omega (arith, lowest, rest, split)
 
--- what is loaded is what was stored there
+-- What is loaded is what was stored there.
 pub stored_is_loaded : (bytes : List ℕ) (address size x : ℕ) → access_fault bytes address size ≡ None
     → loaded (stored bytes address size x) address size ≡ x % 2 ^ (8 * size)
 unfolding loaded stored

@@ -54,18 +54,18 @@ cell n = record { value = n; nat = false }
 abbrev nat_cell : ℕ → Cell
 nat_cell n = record { value = n; nat = true }
 
--- r1 is 3, r2 is 5, r3 is NaT, and r4 is given; p1 is 1, and all other predicates but p0 are 0
+-- r1 is 3, r2 is 5, r3 is NaT, and r4 is given; p1 is 1, and all other predicates but p0 are 0.
 abbrev with_r4 : Cell → Registers
 with_r4 c = record zero_registers { statics = zero_cell ∷ cell 3 ∷ cell 5 ∷ nat_cell 7 ∷ c ∷ []; predicates = true ∷ true ∷ [] }
 
 abbrev registers : Registers
 registers = with_r4 zero_cell
 
--- sixteen data bytes, 1 to 16
+-- Sixteen data bytes, 1 to 16.
 abbrev memory : Memory
 memory = record { bytes = 1 ∷ 2 ∷ 3 ∷ 4 ∷ 5 ∷ 6 ∷ 7 ∷ 8 ∷ 9 ∷ 10 ∷ 11 ∷ 12 ∷ 13 ∷ 14 ∷ 15 ∷ 16 ∷ []; alat = [] }
 
--- bundle 10; address 32 alone is that of an entry, bundle 2, which asks that p6 is 0
+-- Bundle 10; address 32 alone is that of an entry, bundle 2, which asks that p6 is 0.
 abbrev here : Site
 here = record { bundle = 10; arrival = λ low address. if address == 32 then (if get_or low 6 false then Err BadRelation else Ok 2) else Err BadLanding }
 
@@ -77,14 +77,14 @@ run qp o r = effect here (record { qp = qp; op = o }) r memory 0
 abbrev compare : CmpKind → ℕ → Outcome
 compare kind r3 = run 0 (op.Cmp false Eq kind 6 7 1 r3) registers
 
--- p6 and p7 are written
+-- p6 and p7 are written.
 abbrev both : Bool → Bool → Outcome
 both p q = falls (SetPredicate 6 p ∷ SetPredicate 7 q ∷ []) memory
 
 abbrev nothing : Outcome
 nothing = falls [] memory
 
--- result 1, result 0, and a NaT operand
+-- result 1, result 0, and a NaT operand.
 normal :
     (compare Normal 1 ≡ both true false)
     × (compare Normal 2 ≡ both false true)
@@ -120,7 +120,7 @@ or_and_complement :
 unfolding look spot holds predicate_spot predicate_index
 or_and_complement = (refl, refl, refl)
 
--- NaT of the first operand alone
+-- NaT of the first operand alone.
 nat_first :
     (run 0 (op.Cmp false Eq Normal 6 7 3 1) registers ≡ both false false)
     × (run 0 (op.Cmp false Eq Or 6 7 3 1) registers ≡ nothing)
@@ -195,18 +195,18 @@ outside_frame :
 unfolding look spot holds predicate_index
 outside_frame = (refl, refl, refl, refl)
 
--- 3 - 5, and 3 - 5 - 1
+-- 3 - 5, and 3 - 5 - 1.
 difference :
     (run 0 (op.Alu alu_fn.Sub 4 1 2) registers ≡ falls (SetStatic 4 (cell 0xffff_ffff_ffff_fffe) ∷ []) memory)
     × (run 0 (op.Alu alu_fn.Sub1 4 1 2) registers ≡ falls (SetStatic 4 (cell 0xffff_ffff_ffff_fffd) ∷ []) memory)
 unfolding look spot holds
 difference = (refl, refl)
 
--- r5 becomes this
+-- r5 becomes this.
 abbrev gives : ℕ → Outcome
 gives n = falls (SetStatic 5 (cell n) ∷ []) memory
 
--- with r4
+-- With r4.
 abbrev run_at : ℕ → Op → Outcome
 run_at n o = run 0 o (with_r4 (cell n))
 
@@ -225,7 +225,7 @@ immediate_first :
 unfolding look spot holds
 immediate_first = (refl, refl)
 
--- by 3, by 2^63 and by 64
+-- By 3, by 2^63 and by 64.
 shifts :
     (run_at (2 ^ 63) (op.ShiftVar Shr 5 4 1) ≡ gives 0xf000_0000_0000_0000)
     × (run_at (2 ^ 63) (op.ShiftVar ShrU 5 4 1) ≡ gives 0x1000_0000_0000_0000)
@@ -285,7 +285,7 @@ operations_on_lanes = (refl, refl, refl, refl, refl, refl, refl, refl, refl, ref
 
 -- Moves.
 
--- r4 moves to the application register
+-- r4 moves to the application register.
 abbrev to_pfs : ℕ → Outcome
 to_pfs x = run 0 (op.MovToAr Pfs 4) (with_r4 (cell x))
 
@@ -328,7 +328,7 @@ masked :
 unfolding look spot holds predicate_writes
 masked = (refl, refl, refl, refl)
 
--- the word by place
+-- The word by place.
 predicates_fetched : run 0 (op.MovFromPr 4) registers ≡ falls (SetStatic 4 (cell 3) ∷ []) memory
 unfolding look spot holds predicate_word
 predicates_fetched = refl
@@ -343,7 +343,7 @@ address_fetched = refl
 abbrev loop_frame : FrameShape
 loop_frame = record zero_frame { sof = 8; sor = 1; rrbs = record { gr = 0; fr = 0; pr = 1 } }
 
--- the registers rotate
+-- The registers rotate.
 abbrev rotates : Write
 rotates = SetFrame Renamed (record zero_frame { sof = 8; sor = 1; rrbs = record { gr = 7; fr = 95; pr = 0 } })
 
@@ -362,14 +362,14 @@ conditional :
 unfolding look spot holds predicate_index rotated
 conditional = (refl, refl)
 
--- by LC 1 and LC 0
+-- By LC 1 and LC 0.
 simple :
     (loop Cloop 0 1 5 ≡ takes (SetLc 0 ∷ []))
     × (loop Cloop 0 0 5 ≡ stays [])
 unfolding look spot holds predicate_index rotated
 simple = (refl, refl)
 
--- by LC 1, and by EC 2, 1 and 0 with LC 0
+-- By LC 1, and by EC 2, 1 and 0 with LC 0.
 counted_top :
     (loop Ctop 0 1 0 ≡ takes (SetLc 0 ∷ SetPredicate 16 true ∷ rotates ∷ []))
     × (loop Ctop 0 0 2 ≡ takes (SetEc 1 ∷ SetPredicate 16 false ∷ rotates ∷ []))
@@ -386,7 +386,7 @@ counted_exit :
 unfolding look spot holds predicate_index rotated
 counted_exit = (refl, refl, refl, refl)
 
--- by a qualifying predicate that is 1, and by EC 2, 1 and 0 with one that is 0, whatever LC is
+-- By a qualifying predicate that is 1, and by EC 2, 1 and 0 with one that is 0, whatever LC is.
 while_top :
     (loop Wtop 1 5 0 ≡ takes (SetPredicate 16 false ∷ rotates ∷ []))
     × (loop Wtop 2 5 2 ≡ takes (SetEc 1 ∷ SetPredicate 16 false ∷ rotates ∷ []))
@@ -429,7 +429,7 @@ allocated_faults :
 unfolding look spot holds frame_index has_zero_bases
 allocated_faults = (refl, refl, refl)
 
--- sof 8, sol 5, sor 1, and the bases 3, 2 and 1
+-- sof 8, sol 5, sor 1, and the bases 3, 2 and 1.
 abbrev caller : FrameShape
 caller = record { base = 20; sof = 8; sol = 5; sor = 1; rrbs = record { gr = 3; fr = 2; pr = 1 } }
 
@@ -438,7 +438,7 @@ called_from : run 0 (op.BrCall 6 0 false false (pos 2)) (record registers { fram
 unfolding look spot holds frame_marker call_state
 called_from = refl
 
--- a return from a frame with this base, to the address in b0
+-- A return from a frame with this base, to the address in b0.
 abbrev return_from : ℕ → ℕ → ℕ → Outcome
 return_from base pfs address = run 0 (op.BrRet 0 0 false false) (record registers { frame = record zero_frame { base = base; sof = 3 }; pfs = pfs; branches = address ∷ [] })
 
@@ -448,7 +448,7 @@ unfolding look spot holds marked_frame is_frame return_fault
 returned_to = refl
 
 -- sof 97, sol above sof, 8 * sor above sof, a base of general registers past the rotating part, one of predicates of 48, a base
--- below sol, and another address than that of an entry
+-- below sol, and another address than that of an entry.
 return_faults :
     (return_from 25 97 32 ≡ faults BadFrame memory)
     × (return_from 25 (2 ^ 7) 32 ≡ faults BadFrame memory)
@@ -489,15 +489,15 @@ entries_kept :
 unfolding entered invalidated
 entries_kept = (refl, refl, refl)
 
--- a memory with an entry of r4, of eight bytes at this address
+-- A memory with an entry of r4, of eight bytes at this address.
 abbrev with_entry : ℕ → Memory
 with_entry address = record memory { alat = entry (Static 4) address 8 ∷ [] }
 
--- with r4 and UNAT
+-- With r4 and UNAT.
 abbrev run_with : Op → Cell → Memory → ℕ → Outcome
 run_with o c m unat = effect here (record { qp = 0; op = o }) (with_r4 c) m unat
 
--- the entries after a store of one byte of r1 to the address in r4
+-- The entries after a store of one byte of r1 to the address in r4.
 abbrev left_by : ℕ → ℕ → List AlatEntry
 left_by stored_at entered_at = (run_with (op.Store 1 store.Plain 0 4 1 update.None) (cell stored_at) (with_entry entered_at) 0).memory.alat
 
@@ -520,7 +520,7 @@ loads_entering :
 unfolding look spot holds access_fault loaded invalidated entered has_hit
 loads_entering = (refl, refl, refl)
 
--- an entry of r2 at this address
+-- An entry of r2 at this address.
 abbrev with_target : ℕ → Memory
 with_target address = record memory { alat = entry (Static 2) address 8 ∷ [] }
 
@@ -557,7 +557,7 @@ spilled_nat :
 unfolding look spot holds access_fault stored untouched
 spilled_nat = (refl, refl, refl)
 
--- the bit is set or cleared, and the others stay
+-- The bit is set or cleared, and the others stay.
 spilled_bit :
     ((spilled (Some (1, true)) (record registers { unat = 5 })).unat ≡ 7)
     × ((spilled (Some (1, false)) (record registers { unat = 7 })).unat ≡ 5)
@@ -571,7 +571,7 @@ filled :
 unfolding look spot holds access_fault loaded invalidated entered has_hit
 filled = (refl, refl)
 
--- r2 becomes 0 with NaT
+-- r2 becomes 0 with NaT.
 abbrev defers : List Write → Memory → Outcome
 defers ws m = falls (SetStatic 2 (nat_cell 0) ∷ ws) m
 
@@ -631,7 +631,7 @@ unfolding look spot holds access_fault loaded stored untouched
 exchange_touches = (refl, refl, refl)
 
 -- NaT of the address, or of the register that is exchanged; an address that is not a multiple of the size, and bytes that are
--- not data; a register outside the frame
+-- not data; a register outside the frame.
 exchange_faults :
     (run_with (op.Xchg 8 0 2 4 1) (nat_cell 0x100001) memory 0 ≡ faults NatConsumed memory)
     × (run_with (op.Xchg 8 0 2 4 3) (cell 0x100001) memory 0 ≡ faults NatConsumed memory)
@@ -650,7 +650,7 @@ idle = record { qp = 0; op = op.Nop M 0 }
 abbrev of_three : Insn → Bundle
 of_three insn = record { template = 0; slots = Three idle idle insn }
 
--- of five bundles, the last with a long instruction and no stop at its end
+-- Of five bundles, the last with a long instruction and no stop at its end.
 abbrev landed_in : Program
 landed_in = record {
   bundles = of_three idle ∷ of_three idle ∷ of_three (record { qp = 0; op = op.BrCall 0 0 false false (pos 0) }) ∷ of_three idle ∷ record { template = 4; slots = Long idle idle } ∷ [];
@@ -670,7 +670,7 @@ entries_landed :
 unfolding landing is_entry
 entries_landed = (refl, refl, refl, refl, refl, refl, refl)
 
--- the first predicates with these two, and no others, 1
+-- The first predicates with these two, and no others, 1.
 abbrev two_ones : ℕ → ℕ → List Bool
 two_ones p q = set (set (replicate 16 false) p true) q true
 
@@ -708,7 +708,7 @@ stops :
 unfolding is_stopped
 stops = (refl, refl, refl, refl, refl, refl)
 
--- a state of it at a place
+-- A state of it at a place.
 abbrev state_at : Place → State
 state_at place = record { registers = registers; memory = memory; place = place }
 
@@ -730,7 +730,7 @@ moved_back :
 unfolding look spot holds
 moved_back = (refl, refl, refl, refl)
 
--- a check of a register branches where it has NaT
+-- A check of a register branches where it has NaT.
 checked :
     (run 0 (op.ChkS M 3 (negsuc 1)) registers ≡ goes [] memory 8)
     × (run 0 (op.ChkS M 1 (pos 2)) registers ≡ nothing)
@@ -790,6 +790,6 @@ resident :
     × (range_of zero_range ((0, 96) ∷ (90, 150) ∷ (90, 91) ∷ []) ≡ record { low = 54; high = 91; spilled = 54; filled = 0 })
 resident = (refl, refl)
 
--- what resizes a frame counts, and what renames it doesn't
+-- What resizes a frame counts, and what renames it doesn't.
 changes : frame_changes (SetFrame Resized (record zero_frame { base = 5; sof = 3 }) ∷ SetLc 1 ∷ SetFrame Renamed zero_frame ∷ []) ≡ (5, 8) ∷ []
 changes = refl

@@ -26,21 +26,21 @@ landing_small p address = chosen (nat_le (bundle_address 0) address) (is_entry p
     chosen true false n h = tt
     chosen true true n h = h refl
 
--- an indirect branch arrives at a bundle of the program
+-- An indirect branch arrives at a bundle of the program.
 pub arrival_small : (p : Program) (low : List Bool) (address : ℕ) → IfOk (arrival p low address) (λ bundle. bundle < length p.bundles)
 arrival_small p low address = IfOk-weaker (arrival p low address) _ _ (λ bundle kept. kept.0) (arrived_keeps p low (landing p address) (λ bundle. bundle < length p.bundles) (landing_small p address))
 
 abs_small : (x : ℤ) (count : ℕ) → pos 0 ≤ℤ x → x <ℤ pos count → nat_abs x < count
 abs_small x count h k = omega (arith, ints)
 
--- the target of a branch that stays inside is a bundle of the program
+-- The target of a branch that stays inside is a bundle of the program.
 pub target_small : (count bundle : ℕ) (disp : ℤ) → IsBundleAt count bundle disp → target_of bundle disp < count
 target_small count bundle disp h = abs_small (pos bundle +ℤ disp) count h.0 h.1
 
--- the function of next places gives a next place
+-- The function of next places gives a next place.
 pub next_is : (bundles : List Bundle) (place next : Place) → next_of bundles place ≡ Some next → IsNext bundles place next
 next_is bundles place next e = rw e at (next_fits bundles place)
 
--- where the test finds no stop there is none
+-- Where the test finds no stop there is none.
 pub not_stopped : (bundles : List Bundle) (place : Place) → is_stopped bundles place ≡ false → IsStopped bundles place → ⊥
 not_stopped bundles place e h = let s = (stop_decides bundles place).1 h in cc

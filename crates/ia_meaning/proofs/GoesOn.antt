@@ -23,16 +23,16 @@ use Rattle.ia_meaning.specs.Names.{holds}
 use Rattle.ia_meaning.specs.Steps.{settled}
 use Rattle.ia_meaning.proofs.Inversions.{ApplicationCases, ActCases, SkipCases, guarded_cases}
 
--- where a branch is taken, the bundle that it goes to is a good one
+-- Where a branch is taken, the bundle that it goes to is a good one.
 abbrev pub IsGoodNext : (ℕ → Type 0) → Next → Type 0
 IsGoodNext Good (Goes bundle) = Good bundle
 IsGoodNext Good way = ⊤
 
--- the way that an outcome goes on
+-- The way that an outcome goes on.
 abbrev pub IsGoodWay : (ℕ → Type 0) → Outcome → Type 0
 IsGoodWay Good o = IsGoodNext Good o.next
 
--- the entry at which an indirect branch arrives is a good one
+-- The entry at which an indirect branch arrives is a good one.
 lands_on : (Good : ℕ → Type 0) (o : Result ℕ FaultKind) (to : ℕ) → IfOk o Good → o ≡ Ok to → Good to
 lands_on Good o to h e = subst (λ o. IfOk o Good) e h
 
@@ -40,7 +40,7 @@ application_on : (Good : ℕ → Type 0) (ar : Ar) (x : ℕ) (m : Memory) → Ap
 application_on Good Pfs x m = λ _. tt
 application_on Good ar x m = tt
 
--- how many bundles from its own the target of an action is, where the action has it from the instruction
+-- How many bundles from its own the target of an action is, where the action has it from the instruction.
 abbrev pub action_displacement : Action → Option ℤ
 action_displacement (CheckNat r2 disp) = Some disp
 action_displacement (CheckAlat clear r1 disp) = Some disp
@@ -49,7 +49,7 @@ action_displacement (Loop kind disp) = Some disp
 action_displacement (Call b1 (Direct disp)) = Some disp
 action_displacement action = None
 
--- the target, where there is one, is a good bundle
+-- The target, where there is one, is a good bundle.
 abbrev pub IsGoodTarget : (ℕ → Type 0) → ℕ → Option ℤ → Type 0
 IsGoodTarget Good bundle target = IfSome target (λ disp. Good (target_of bundle disp))
 
@@ -72,7 +72,7 @@ skip_on Good s (Test kind p1 p2 r2 r3 c) r m target = (λ _. tt, λ _. tt)
 skip_on Good s (Loop kind disp) r m target = (λ _. target, λ _. tt)
 skip_on Good s _ r m target = tt
 
--- the target of an operation's action is that of the operation
+-- The target of an operation's action is that of the operation.
 same_displacement : (o : Op) → action_displacement (action_of o) ≡ displacement o
 same_displacement o = grind arith
 
@@ -102,7 +102,7 @@ falls_as (Some place) m way o e h = record { falls = h; place = place; is = refl
 pub falls_to : (next : Option Place) (m : Memory) (o : Outcome) → (settled next m o.next o).next ≡ Falls → FallsTo next o
 falls_to next m o h = falls_as next m o.next o refl h
 
--- a leaving operation that is executed doesn't fall through
+-- A leaving operation that is executed doesn't fall through.
 act_leaves : (s : Site) (o : Op) (r : Registers) (m : Memory) (unat : ℕ) → IsLeaving o → (act s (action_of o) r m unat).next ≡ Falls → ⊥
 act_leaves s o r m unat h e = grind arith
 

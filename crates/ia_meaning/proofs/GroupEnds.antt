@@ -12,7 +12,7 @@ use Rattle.ia_meaning.specs.Progress.{Progress, begun, opened, stepped, advanced
 use Rattle.ia_meaning.specs.Runs.{IsUnderWay}
 use Rattle.ia_meaning.proofs.Inside.{first_is_place, stays_inside, step_continues}
 
--- a group that is opened or not changes neither the state nor the slots nor the range
+-- A group that is opened or not changes neither the state nor the slots nor the range.
 pub record IsOpened (m o : Progress) : Type 0 where
   pub state : o.state ≡ m.state
   pub slots : o.slots ≡ m.slots
@@ -25,11 +25,11 @@ opened_keeps m = of (m.slots == 0)
     of true = record { state = refl; slots = refl; range = refl }
     of false = record { state = refl; slots = refl; range = refl }
 
--- a run that begins at a place of the program is under way
+-- A run that begins at a place of the program is under way.
 pub begun_under_way : (p : Program) (s : State) → IsPlaceOf p.bundles s.place → IsUnderWay p (begun s)
 begun_under_way p s is = record { place = is; before = []; stand = tt; count = refl }
 
--- slot 0 of bundle 0 is a place of the program
+-- slot 0 of bundle 0 is a place of the program.
 pub zero_is_place : (p : Program) → IsProgram p → IsPlaceOf p.bundles (zero_state p).place
 zero_is_place p program = let c = program.counts in first_is_place p.bundles 0 (omega (arith, c.some))
 
@@ -54,7 +54,7 @@ stepped_under_way p m program u None e =
       count = rw e (omega (arith, o.slots, u.count));
     }
 
--- a step further
+-- A step further.
 pub advances_under_way : (p : Program) (m : Progress) → IsProgram p → IsUnderWay p m → IsUnderWay p (advanced p m)
 unfolding advanced
 advances_under_way p m program u = of m.end
@@ -83,11 +83,11 @@ pub goes_on_under_way : (n : ℕ) (p : Program) (m : Progress) → IsProgram p �
 goes_on_under_way zero p m program u = u
 goes_on_under_way (suc n) p m program u = goes_on_under_way n p (group_further p m) program (group_under_way p m program u)
 
--- the group under way has fewer than RUN_LIMIT slots so far
+-- The group under way has fewer than RUN_LIMIT slots so far.
 pub has_few_slots : (p : Program) (m : Progress) → IsProgram p → IsUnderWay p m → m.slots < RUN_LIMIT
 has_few_slots p m program u = let few = program.runs m.state.place u.place u.before u.stand in omega (arith, u.count)
 
--- a step that leaves the group under way
+-- A step that leaves the group under way.
 pub record IsInGroup (m next : Progress) : Type 0 where
   pub slots : next.slots ≡ suc m.slots
   pub end : next.end ≡ None
@@ -114,7 +114,7 @@ rest_ends next rest h = of next.slots refl
     of zero e = e
     of (suc k) e = h k e
 
--- with steps enough the group is over
+-- With steps enough the group is over.
 to_end_ends : (most : ℕ) (p : Program) (m : Progress) → IsProgram p → IsUnderWay p m → m.end ≡ None → RUN_LIMIT ≤ m.slots + most → (to_group_end most p m).slots ≡ 0
 to_end_ends zero p m program u none enough = let few = has_few_slots p m program u in absurd (omega arith)
 to_end_ends (suc most) p m program u none enough =
@@ -129,7 +129,7 @@ rest_same : (slots : ℕ) (m next rest : Progress) → next ≡ m → rest ≡ m
 rest_same zero m next rest h k = h
 rest_same (suc slots) m next rest h k = k
 
--- after an end nothing changes
+-- After an end nothing changes.
 to_end_ended : (most : ℕ) (p : Program) (m : Progress) (e : End) → m.end ≡ Some e → to_group_end most p m ≡ m
 to_end_ended zero p m e is = refl
 to_end_ended (suc most) p m e is =
@@ -148,7 +148,7 @@ pub group_comes_to_end : (p : Program) (m : Progress) → IsProgram p → IsUnde
 unfolding group_further
 group_comes_to_end p m program u none = to_end_ends RUN_LIMIT p m program u none (omega arith)
 
--- one group further no group is under way
+-- One group further no group is under way.
 pub groups_end : (p : Program) (m : Progress) → IsProgram p → IsUnderWay p m → (m.end ≡ None) ⊎ (m.slots ≡ 0) → (group_further p m).slots ≡ 0
 groups_end p m program u (inl none) = group_comes_to_end p m program u none
 groups_end p m program u (inr slots) = of m.end refl

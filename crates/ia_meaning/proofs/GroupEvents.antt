@@ -12,14 +12,14 @@ use Rattle.ia_meaning.specs.Runs.{event_by, event_to_end, event_further}
 use Rattle.ia_meaning.proofs.GroupEnds.{opened_keeps}
 use Rattle.ia_meaning.proofs.WholeRuns.{opened_between, opened_within, advanced_is, step_goes_on, after_step}
 
--- the event of a group under way that ends so
+-- The event of a group under way that ends so.
 abbrev pub event_ending : Progress → Place → ℕ → How → GroupEvent
 event_ending m last slots how = record { number = m.groups; first = m.first; last = last; slots = slots; how = how }
 
 with_slots : (m : Progress) (last : Place) (how : How) (n k : ℕ) → n ≡ k → event_ending m last n how ≡ event_ending m last k how
 with_slots m last how n k e = ap (λ (slots : ℕ). event_ending m last slots how) e
 
--- the event of a group under way and the rest of it
+-- The event of a group under way and the rest of it.
 abbrev pub event_with : Progress → Group → GroupEvent
 event_with m group = event_ending m group.last (m.slots + group.slots) (how_of group.how)
 
@@ -28,13 +28,13 @@ abbrev pub ComesToEvent : ℕ → Program → Type 0
 ComesToEvent most p =
     (m : Progress) → m.end ≡ None → (k : ℕ) → m.slots ≡ suc k → event_to_end most p m ≡ event_with m (group_within most p m.state)
 
--- after one slot that doesn't end the group
+-- After one slot that doesn't end the group.
 event_after : (m : Progress) (step : Step) (rest : Group) → step.how ≡ None → event_with (stepped m step) rest ≡ event_ending m rest.last (m.slots + suc rest.slots) (how_of rest.how)
 event_after m step rest e =
     let s = after_step m.slots step.how e in
     with_slots m rest.last (how_of rest.how) (slots_after m.slots step.how + rest.slots) (m.slots + suc rest.slots) (omega arith)
 
--- one slot more at the front
+-- One slot more at the front.
 step_event : (p : Program) (m : Progress) (step : Step) (rest : Group) (event : GroupEvent) (h : Option How) → step.how ≡ h → (step.how ≡ None → event ≡ event_with (stepped m step) rest) → event_by m h event ≡ event_with m (group_by p m.state step h rest)
 step_event p m step rest event (Some how) e comes = refl
 step_event p m step rest event None e comes = comes e ∙ event_after m step rest e
@@ -51,7 +51,7 @@ comes_to_event (suc most) p = λ m none k e.
     subst (λ (o : Progress). event_to_end (suc most) p m ≡ event_with o (group_within (suc most) p m.state)) (opened_within m k e)
     (next_event most p m none (comes_to_event most p))
 
--- between two groups it is that of the next group
+-- Between two groups it is that of the next group.
 event_between : (m : Progress) (group : Group) → m.slots ≡ 0 → event_with (opened m) group ≡ event_of (m.groups + 1) m.state.place group
 event_between m group e =
     ap (λ (o : Progress). event_with o group) (opened_between m e)

@@ -20,19 +20,19 @@ use Rattle.ia_meaning.specs.Views.{view}
 use Rattle.ia_meaning.specs.ParallelGroups.{Gathered, gathered_from, now_of, slot_outcome, gathers, GatheredGroup, ends_with, one_more, gathered_by, gathered_within, par_group}
 use Rattle.ia_meaning.proofs.Inside.{FallsOn, slot_falls_on, step_continues}
 
--- a place of the program with slots of a run of slots before it
+-- A place of the program with slots of a run of slots before it.
 pub record StandsAfter (p : Program) (before : List Place) (place : Place) : Type 0 where
   pub is : IsPlaceOf p.bundles place
   pub stand : StandBefore p.bundles before place
 
--- fewer than RUN_LIMIT slots stand before it
+-- Fewer than RUN_LIMIT slots stand before it.
 no_more : (p : Program) (before : List Place) (place : Place) → IsProgram p → StandsAfter p before place → RUN_LIMIT ≤ length before + 0 → ⊥
 no_more p before place program at enough = let few = program.runs place at.is before at.stand in omega arith
 
 falls_after : (p : Program) (before : List Place) (place : Place) → StandsAfter p before place → FallsOn p place → StandsAfter p (place ∷ before) (place_after place (next_of p.bundles place))
 falls_after p before place at f = let n = f.next in record { is = n.is; stand = (at.is, n, f.on, at.stand) }
 
--- the group is over, or its rest is
+-- The group is over, or its rest is.
 step_over : (p : Program) (s : State) (step : Step) (rest : Group) (h : Option How) → (h ≡ None → IsSome rest.how) → IsSome (group_by p s step h rest).how
 step_over p s step rest (Some how) over = refl
 step_over p s step rest None over = over refl
@@ -48,11 +48,11 @@ group_over (suc most) p s before program at enough =
     (record { is = n.is; stand = (at.is, n, c.on, at.stand) })
     (omega arith))
 
--- a sequential group is over
+-- A sequential group is over.
 pub seq_group_ends : (p : Program) (s : State) → IsProgram p → IsPlaceOf p.bundles s.place → IsSome (seq_group p s).how
 seq_group_ends p s program is = group_over RUN_LIMIT p s [] program (record { is = is; stand = tt }) (omega arith)
 
--- the group is over, or its rest is
+-- The group is over, or its rest is.
 slot_over : (p : Program) (first : Bool) (g : Gathered) (o : Outcome) (way : Next) (rest : GatheredGroup) → (is_stopped p.bundles g.place ≡ false → way ≡ Falls → IsSome rest.how) → IsSome (gathered_by p first g o way rest).how
 slot_over p first g o Falls rest over = of (is_stopped p.bundles g.place) refl
   where
@@ -61,7 +61,7 @@ slot_over p first g o Falls rest over = of (is_stopped p.bundles g.place) refl
     of false e = over e refl
 slot_over p first g o way rest over = refl
 
--- the group's next slot goes on to the next place where it falls through and no stop follows
+-- The group's next slot goes on to the next place where it falls through and no stop follows.
 next_slot_falls_on : (p : Program) (g : Gathered) → IsPlaceOf p.bundles g.place → is_stopped p.bundles g.place ≡ false → (slot_outcome p g (insn_at p.bundles g.place)).next ≡ Falls → FallsOn p g.place
 next_slot_falls_on p g is runs = of (insn_at p.bundles g.place) refl is
   where
@@ -87,7 +87,7 @@ gathered_over (suc most) p begins g before program at enough =
     (subst (StandsAfter p (g.place ∷ before)) (sym (gathers_place first g o next)) (falls_after p before g.place at f))
     (omega arith))
 
--- a group all at once is over
+-- A group all at once is over.
 pub par_group_ends : (p : Program) (code : List ℕ) (s : State) → IsProgram p → IsPlaceOf p.bundles s.place → IsSome (par_group p code s).how
 par_group_ends p code s program is =
     gathered_over RUN_LIMIT p true (gathered_from s) [] program (record { is = is; stand = tt }) (omega arith)

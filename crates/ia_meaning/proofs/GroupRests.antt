@@ -11,7 +11,7 @@ use Rattle.ia_meaning.specs.Runs.{IsUnderWay, event_by, event_to_end, event_furt
 use Rattle.ia_meaning.proofs.GroupEnds.{opened_keeps, advances_under_way, has_few_slots, IsInGroup}
 use Rattle.ia_meaning.proofs.WholeRuns.{advanced_is, step_goes_on, after_step}
 
--- a step that doesn't end its group leaves it under way
+-- A step that doesn't end its group leaves it under way.
 step_in_group : (p : Program) (m : Progress) → m.end ≡ None → (seq_step p m.state).how ≡ None → IsInGroup m (advanced p m)
 step_in_group p m none e =
     let o = opened_keeps m in
@@ -19,7 +19,7 @@ step_in_group p m none e =
     subst (λ (a : Progress). IsInGroup m a) (sym (advanced_is p m none))
     (record { slots = omega (arith, o.slots, s); end = step_goes_on p m.state e })
 
--- a group that isn't over goes on
+-- A group that isn't over goes on.
 goes_on : (slots : ℕ) (h : Option How) → slots_after slots h ≢ 0 → h ≡ None
 goes_on slots (Some how) e = absurd (e refl)
 goes_on slots None e = refl
@@ -28,17 +28,17 @@ how_within : (p : Program) (m : Progress) → m.end ≡ None → (advanced p m).
 how_within p m none more =
     goes_on (opened m).slots (seq_step p m.state).how (λ e. more (ap (λ (a : Progress). a.slots) (advanced_is p m none) ∙ e))
 
--- a group that ends there has no rest
+-- A group that ends there has no rest.
 ends_here : (p : Program) (m : Progress) (how : How) → m.end ≡ None → (seq_step p m.state).how ≡ Some how → (advanced p m).slots ≡ 0
 ends_here p m how none e = ap (λ (a : Progress). a.slots) (advanced_is p m none) ∙ ap (slots_after (opened m).slots) e
 
--- what is the same with one step more, where the steps are enough for the group to be over
+-- What is the same with one step more, where the steps are enough for the group to be over.
 pub record IsSameWithMore (most : ℕ) (p : Program) (m : Progress) : Type 0 where
   pub group : to_group_end (suc most) p m ≡ to_group_end most p m
   pub event : event_to_end (suc most) p m ≡ event_to_end most p m
   pub frames : frames_to_group_end (suc most) p m ≡ frames_to_group_end most p m
 
--- where the group ends at the next slot, what more steps would give isn't used
+-- Where the group ends at the next slot, what more steps would give isn't used.
 same_ended : (next rest other : Progress) → next.slots ≡ 0 → rest_by next.slots next rest ≡ rest_by next.slots next other
 same_ended next rest other e = rw e refl
 
@@ -49,7 +49,7 @@ same_here most p m how none e = record {
   frames = rw e refl;
 }
 
--- where it goes on, the rest is the same
+-- Where it goes on, the rest is the same.
 same_after : (most : ℕ) (p : Program) (m : Progress) → IsSameWithMore most p (advanced p m) → IsSameWithMore (suc most) p m
 same_after most p m same =
     let next = advanced p m in
@@ -60,7 +60,7 @@ same_after most p m same =
       frames = ap (λ (rest : List (ℕ × ℕ)). frames_by step.how step.frames rest) same.frames;
     }
 
--- the group is over here, or goes on
+-- The group is over here, or goes on.
 same_by : (most : ℕ) (p : Program) (m : Progress) → m.end ≡ None → ((seq_step p m.state).how ≡ None → IsSameWithMore most p (advanced p m)) → (h : Option How) → (seq_step p m.state).how ≡ h → IsSameWithMore (suc most) p m
 same_by most p m none on (Some how) e = same_here most p m how none e
 same_by most p m none on None e = same_after most p m (on e)
@@ -96,7 +96,7 @@ rest_after_step most p m none more =
       frames = rw e refl;
     }
 
--- after a step that doesn't end its group the rest of the group comes to the same
+-- After a step that doesn't end its group the rest of the group comes to the same.
 pub rest_of_group : (p : Program) (m : Progress) → IsProgram p → IsUnderWay p m → m.end ≡ None → (advanced p m).slots ≢ 0
     → (group_further p (advanced p m) ≡ group_further p m) × (event_further p (advanced p m) ≡ event_further p m)
     × ((seq_step p m.state).frames ++ group_frames p (advanced p m) ≡ group_frames p m)

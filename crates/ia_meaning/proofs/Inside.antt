@@ -34,7 +34,7 @@ target_good p place insn inside e =
     of None h = tt
     of (Some disp) h = target_small (length p.bundles) place.bundle disp h
 
--- an instruction of a program goes to its bundles alone
+-- An instruction of a program goes to its bundles alone.
 effect_good : (p : Program) (place : Place) (insn : Insn) (r : Registers) (m : Memory) (unat : ℕ) → IsTargetInside p.bundles place → insn_at p.bundles place ≡ Some insn → IsGoodWay (IsBundleOf p) (effect (site p place.bundle) insn r m unat)
 effect_good p place insn r m unat inside e =
     effect_on (IsBundleOf p) (site p place.bundle) insn r m unat (arrival_small p (take 16 r.predicates)) (target_good p place insn inside e)
@@ -74,7 +74,7 @@ falling_on : (stopped : Bool) → how_falling stopped ≡ None → stopped ≡ f
 falling_on true e = absurd cc
 falling_on false e = refl
 
--- there is a next place, and no run of slots ends here
+-- There is a next place, and no run of slots ends here.
 pub record FallsOn (p : Program) (place : Place) : Type 0 where
   pub next : IsNext p.bundles place (place_after place (next_of p.bundles place))
   pub on : ¬ EndsRun p.bundles place
@@ -82,7 +82,7 @@ pub record FallsOn (p : Program) (place : Place) : Type 0 where
 falls_on_to : (p : Program) (place next : Place) → next_of p.bundles place ≡ Some next → ¬ EndsRun p.bundles place → FallsOn p place
 falls_on_to p place next e on = record { next = rw e (next_is p.bundles place next e); on = on }
 
--- where an instruction falls through, whatever it reads, and no stop follows, no run ends
+-- Where an instruction falls through, whatever it reads, and no stop follows, no run ends.
 run_goes_on : (p : Program) (place : Place) (insn : Insn) (r : Registers) (m : Memory) (unat : ℕ) → insn_at p.bundles place ≡ Some insn → is_stopped p.bundles place ≡ false → (effect (site p place.bundle) insn r m unat).next ≡ Falls → EndsRun p.bundles place → ⊥
 run_goes_on p place insn r m unat e runs falls (inl stop) = not_stopped p.bundles place runs stop
 run_goes_on p place insn r m unat e runs falls (inr leaving) =

@@ -36,11 +36,11 @@ use Rattle.ia_meaning.specs.declared.turn.Turn.{Turn}
 use Rattle.ia_meaning.specs.Landings.{target_of}
 use Rattle.ia_meaning.specs.Effects.{Site, arrives, act, skip, guarded}
 
--- a fault may come
+-- A fault may come.
 abbrev pub Fails : (Outcome → Type 0) → Memory → Type 0
 Fails Q m = (kind : FaultKind) → Q (faults kind m)
 
--- the entries as they were, or without those of a register
+-- The entries as they were, or without those of a register.
 abbrev pub MayInvalidate : List AlatEntry → Spot → List AlatEntry → Type 0
 MayInvalidate es d left = (left ≡ es) ⊎ (left ≡ invalidated es d)
 
@@ -57,7 +57,7 @@ ApplicationCases Q Pfs x m = has_reserved_zeros x ≡ true → Q (falls (SetPfs 
 ApplicationCases Q Lc x m = Q (falls (SetLc x ∷ []) m)
 ApplicationCases Q Ec x m = Q (falls (SetEc (x % 64) ∷ []) m)
 
--- of a branch that is taken or falls
+-- Of a branch that is taken or falls.
 abbrev pub TurnCases : (Outcome → Type 0) → Turn → FrameShape → ℕ → Memory → Type 0
 TurnCases Q t f bundle m =
     (t.taken ≡ true → Q (goes (turn_writes t f) m bundle)) × (t.taken ≡ false → Q (falls (turn_writes t f) m))
@@ -141,7 +141,7 @@ SkipCases Q s (Test kind p1 p2 r2 r3 c) r m =
 SkipCases Q s (Loop kind disp) r m = TurnCases Q (turn_of kind false r.lc r.ec) r.frame (target_of s.bundle disp) m
 SkipCases Q s action r m = Q (falls [] m)
 
--- the sides of a choice
+-- The sides of a choice.
 either : (Q : Outcome → Type 0) (b : Bool) (x y : Outcome) → (b ≡ true → Q x) → (b ≡ false → Q y) → Q (if b then x else y)
 either Q true x y h k = h refl
 either Q false x y h k = k refl
@@ -296,7 +296,7 @@ case_return Q x f ec o m h k = case_faults_or Q x m _ h (λ free. case_lands Q _
 case_turn : (Q : Outcome → Type 0) (t : Turn) (f : FrameShape) (bundle : ℕ) (m : Memory) → TurnCases Q t f bundle m → Q (turned t f bundle m)
 case_turn Q t f bundle m h = either Q t.taken _ _ h.0 h.1
 
--- what holds in each case of an action holds of its effect
+-- What holds in each case of an action holds of its effect.
 pub act_cases : (Q : Outcome → Type 0) (s : Site) (action : Action) (r : Registers) (m : Memory) (unat : ℕ) → ActCases Q s action r m unat → Q (act s action r m unat)
 act_cases Q s (Compute r1 r2 r3 f) r m unat h = case_computed Q (value_of f) (spot r.frame r1) (look r r2) (look r r3) m h.0 h.1
 act_cases Q s (Fetch r1 source) r m unat h = case_fetched Q (spot r.frame r1) (source_value s.bundle r source) m h.0 h.1
@@ -330,13 +330,13 @@ case_skipped : (Q : Outcome → Type 0) (kind : CmpKind) (p q : Option ℕ) (m :
 case_skipped Q Unc p q m h k = h refl
 case_skipped Q _ p q m h k = k (λ e. absurd (cc))
 
--- what holds in each case of one whose qualifying predicate is 0 holds of its effect
+-- What holds in each case of one whose qualifying predicate is 0 holds of its effect.
 pub skip_cases : (Q : Outcome → Type 0) (s : Site) (action : Action) (r : Registers) (m : Memory) → SkipCases Q s action r m → Q (skip s action r m)
 skip_cases Q s (Test kind p1 p2 r2 r3 c) r m h = case_skipped Q kind (predicate_spot r.frame p1) (predicate_spot r.frame p2) m h.0 h.1
 skip_cases Q s (Loop kind disp) r m h = case_turn Q (turn_of kind false r.lc r.ec) r.frame (target_of s.bundle disp) m h
 skip_cases Q s _ r m h = h
 
--- both together
+-- Both together.
 pub guarded_cases : (Q : Outcome → Type 0) (s : Site) (qp : ℕ) (action : Action) (r : Registers) (m : Memory) (unat : ℕ)
     → (holds r qp ≡ true → ActCases Q s action r m unat) → (holds r qp ≡ false → SkipCases Q s action r m) → Q (guarded s qp action r m unat)
 guarded_cases Q s qp action r m unat h k =

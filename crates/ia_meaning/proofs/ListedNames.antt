@@ -29,7 +29,7 @@ use Rattle.ia_meaning.specs.declared.action.Action.{Action}
 use Rattle.ia_meaning.specs.declared.action.Action.TheVariants as action
 use Rattle.ia_meaning.specs.Actions.{action_of}
 
--- the targets of a test are two
+-- The targets of a test are two.
 abbrev pub AreTargets : ℕ → ℕ → Type 0
 AreTargets p1 p2 = (p1 ≢ p2) × (p1 < 64) × (p2 < 64)
 

@@ -6,7 +6,7 @@ use Rattle.ia_meaning.specs.Steps.{Group, Run, event_of, run_by, run_from}
 use Rattle.ia_meaning.specs.ParallelGroups.{par_group, code_of, par_run}
 use Rattle.ia_meaning.specs.NumberedRuns.{numbered_code, numbered_group, numbered_run, numbered_codes}
 
--- a group in the order with a number is one with that order's code
+-- A group in the order with a number is one with that order's code.
 numbered_is : (number : ℕ) (p : Program) (s : State) → numbered_group number p s ≡ par_group p (numbered_code number p s) s
 unfolding numbered_group
 numbered_is number p s = refl
@@ -15,7 +15,7 @@ numbered_is number p s = refl
 same_run : (g h : Group) (number : ℕ) (s : State) (rest other : Run) → g ≡ h → rest ≡ other → run_by g (event_of number s.place g) g.end rest ≡ run_by h (event_of number s.place h) h.end other
 same_run g h number s rest other e f = rw (e, f) refl
 
--- from any group on, where the codes from there on are those of the number
+-- From any group on, where the codes from there on are those of the number.
 from_group : (n : ℕ) (p : Program) (number at : ℕ) (codes : List (List ℕ)) (s : State) → ((i : ℕ) → get_or codes (at + i) [] ≡ get_or (numbered_codes n number p s) i [])
     → run_from (λ each s. numbered_group number p s) (suc at) n s ≡ run_from (λ each s. par_group p (code_of codes each) s) (suc at) n s
 from_group zero p number at codes s h = refl
@@ -29,7 +29,7 @@ from_group (suc n) p number at codes s h =
     same_run (numbered_group number p s) (par_group p (code_of codes (suc at)) s) (suc at) s _ _ here
     (rest ∙ ap (λ (g : Group). run_from (λ each s. par_group p (code_of codes each) s) (suc (suc at)) n g.state) here)
 
--- the whole run
+-- The whole run.
 pub numbered_run_is_parallel : (p : Program) (n number : ℕ) (s : State) → numbered_run p n number s ≡ par_run p n (numbered_codes n number p s) s
 numbered_run_is_parallel p n number s =
     from_group n p number 0 (numbered_codes n number p s) s

@@ -5,7 +5,7 @@ use Rattle.ia_meaning.specs.declared.state.FrameShape.{FrameShape}
 use Rattle.ia_meaning.specs.State.{Registers}
 use Rattle.ia_meaning.specs.Names.{is_rotating, predicate_index, holds}
 
--- p0 is 1
+-- p0 is 1.
 pub holds_zero : (r : Registers) → holds r 0 ≡ true
 unfolding holds
 holds_zero r = refl
@@ -22,13 +22,13 @@ unfolding holds
 holds_by_place now r zero e = refl
 holds_by_place now r (suc p) e = e (λ z. absurd (omega arith))
 
--- one that is 0 isn't p0
+-- One that is 0 isn't p0.
 pub off_some : (r : Registers) (p : ℕ) → holds r p ≡ false → p ≢ 0
 unfolding holds
 off_some r zero off e = absurd (cc)
 off_some r (suc p) off e = absurd (omega arith)
 
--- a predicate that doesn't rotate stands at its own place
+-- A predicate that doesn't rotate stands at its own place.
 pub low_place : (f : FrameShape) (p : ℕ) → p < 16 → predicate_index f p ≡ p
 unfolding predicate_index
 low_place f p h = grind (arith, nat_tests)
@@ -45,12 +45,12 @@ pub place_below : (f : FrameShape) (p : ℕ) → p < 64 → predicate_index f p 
 unfolding predicate_index
 place_below f p i = grind (arith, nat_tests)
 
--- no predicate but p0 stands at place 0
+-- No predicate but p0 stands at place 0.
 pub place_some : (f : FrameShape) (p : ℕ) → p ≢ 0 → predicate_index f p ≢ 0
 unfolding predicate_index
 place_some f p h e = grind (arith, nat_tests)
 
--- the place depends on no more of the frame than the rename base of predicates
+-- The place depends on no more of the frame than the rename base of predicates.
 pub place_by_base : (f g : FrameShape) (p : ℕ) → f.rrbs.pr ≡ g.rrbs.pr → predicate_index f p ≡ predicate_index g p
 unfolding predicate_index
 place_by_base f g p e = ap (λ (n : ℕ). if is_rotating p then 16 + (p - 16 + n) % 48 else p) e

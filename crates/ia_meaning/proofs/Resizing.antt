@@ -10,7 +10,7 @@ length-resized zero cells = refl
 length-resized (suc n) [] = ap suc (length-resized n [])
 length-resized (suc n) (c ∷ cells) = ap suc (length-resized n cells)
 
--- the words of cells are kept
+-- The words of cells are kept.
 pub words-resized : (n : ℕ) (cells : List Cell) → AreCells cells → AreCells (resized n cells)
 words-resized zero cells h = All-nil (λ c. IsWord c.value)
 words-resized (suc n) [] h = All-cons (λ c. IsWord c.value) zero_cell (resized n []) (omega arith) (words-resized n [] h)

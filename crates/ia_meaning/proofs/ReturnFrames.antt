@@ -9,7 +9,7 @@ use Rattle.ia_meaning.specs.State.{IsFrame}
 use Rattle.ia_meaning.specs.Frames.{is_frame, marked_frame, return_fault}
 use Rattle.ia_meaning.proofs.Starts.{frame_decides}
 
--- what is known where a return to a frame below a base isn't refused
+-- What is known where a return to a frame below a base isn't refused.
 pub record MayReturn (limit base : ℕ) (f : FrameShape) : Type 0 where
   pub frame : IsFrame f
   pub above : f.sol ≤ base
@@ -20,7 +20,7 @@ none_of_three : {Fault : Type 0} (a b c : Fault) (good under over : Bool)
     → IsTrue good × (under ≡ false) × (over ≡ false)
 none_of_three a b c good under over e = grind arith
 
--- a return that none of the three faults refuses, whatever they are
+-- A return that none of the three faults refuses, whatever they are.
 pub unrefused : {Fault : Type 0} (a b c : Fault) (limit base : ℕ) (f : FrameShape)
     → (if not (is_frame f) then Some a else if nat_lt base f.sol then Some b else if nat_lt limit (base - f.sol + f.sof) then Some c else None) ≡ None
     → MayReturn limit base f
@@ -34,7 +34,7 @@ pub may_return : (base : ℕ) (f : FrameShape) → return_fault base f ≡ None 
 unfolding return_fault
 may_return base f e = unrefused BadFrame Underflow StackLimit STACK_LIMIT base f e
 
--- the frame of a marker has the same sizes at each base
+-- The frame of a marker has the same sizes at each base.
 pub moved_frame : (base to pfs : ℕ) → IsFrame (marked_frame base pfs) → IsFrame (marked_frame to pfs)
 unfolding marked_frame
 moved_frame base to pfs h = assumption (h)

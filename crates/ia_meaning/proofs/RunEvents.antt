@@ -14,7 +14,7 @@ use Rattle.ia_meaning.proofs.GroupEnds.{begun_under_way, group_under_way, group_
 use Rattle.ia_meaning.proofs.WholeRuns.{HasGroup, group_is, opened_between, advanced_is, step_goes_on}
 use Rattle.ia_meaning.proofs.GroupEvents.{event_is_of_group}
 
--- the changes of one slot, and those of the rest of its group
+-- The changes of one slot, and those of the rest of its group.
 step_frames : (p : Program) (s : State) (step : Step) (changes : List (ℕ × ℕ)) (rest : Group) (h : Option How) → (h ≡ None → changes ≡ rest.frames) → frames_by h step.frames changes ≡ (group_by p s step h rest).frames
 step_frames p s step changes rest (Some how) same = refl
 step_frames p s step changes rest None same = ap (λ (more : List (ℕ × ℕ)). step.frames ++ more) (same refl)
@@ -25,12 +25,12 @@ frames_to_end (suc most) p m none =
     step_frames p m.state (seq_step p m.state) (frames_to_group_end most p (advanced p m)) (group_within most p (seq_step p m.state).state) (seq_step p m.state).how
     (λ e. ap (frames_to_group_end most p) (advanced_is p m none) ∙ frames_to_end most p (stepped (opened m) (seq_step p m.state)) (step_goes_on p m.state e))
 
--- between two groups they are those of the next group
+-- Between two groups they are those of the next group.
 frames_are_of_group : (p : Program) (m : Progress) → m.end ≡ None → group_frames p m ≡ (seq_group p m.state).frames
 unfolding group_frames
 frames_are_of_group p m none = frames_to_end RUN_LIMIT p m none
 
--- after an end there are none
+-- After an end there are none.
 events_ended : (n : ℕ) (p : Program) (m : Progress) (e : End) → m.end ≡ Some e → events_further n p m ≡ []
 events_ended zero p m e is = refl
 events_ended (suc n) p m e is = rw is refl
@@ -42,7 +42,7 @@ frames_ended (suc n) p m e is = rw is refl
 goes_further : {X : Type 0} (e : Option End) (xs : List X) → e ≡ None → unless_ended e xs ≡ xs
 goes_further e xs none = rw none refl
 
--- the first group of a run, and the rest
+-- The first group of a run, and the rest.
 events_by : (told event : GroupEvent) (more : List GroupEvent) (group : Group) (rest : Run) → told ≡ event → (e : Option End) → ((x : End) → e ≡ Some x → more ≡ []) → (e ≡ None → more ≡ rest.events) → told ∷ more ≡ (run_by group event e rest).events
 events_by told event more group rest same (Some x) ended goes = let none = ended x refl in cc
 events_by told event more group rest same None ended goes = let others = goes refl in cc
@@ -51,7 +51,7 @@ run_frames_by : (changes more : List (ℕ × ℕ)) (group : Group) (event : Grou
 run_frames_by changes more group event rest same (Some x) ended goes = rw (same, ended x refl, append-nil) refl
 run_frames_by changes more group event rest same None ended goes = let others = goes refl in cc
 
--- a group further the run is between two groups again
+-- A group further the run is between two groups again.
 pub record IsNextGroup (p : Program) (m next : Progress) : Type 0 where
   pub under_way : IsUnderWay p next
   pub slots : next.slots ≡ 0

@@ -19,7 +19,7 @@ use Rattle.ia_meaning.specs.Sequence.{first_of, next_in, next_of, stops_after, s
 later : (n k : ℕ) (ks : List ℕ) → Contains ks n → Contains (k ∷ ks) n
 later n k ks h = (suc h.0, omega (arith, h.1), h.2)
 
--- one number more is tested
+-- One number more is tested.
 one_more : (n k : ℕ) (ks : List ℕ) → Decides (is_one_of n ks) (Contains ks n) → Decides (is_one_of n (k ∷ ks)) (Contains (k ∷ ks) n)
 one_more n k ks rest = (forward (n == k) refl, backward)
   where
@@ -35,7 +35,7 @@ one_more n k ks rest = (forward (n == k) refl, backward)
     backward (zero, inside, is) = simp ((Decides-eqb n k).1 (sym is))
     backward (suc j, inside, is) = or_true (n == k) (is_one_of n ks) (rest.1 (j, omega arith, is))
 
--- the test of the numbers of a list
+-- The test of the numbers of a list.
 one_of_decides : (n : ℕ) (ks : List ℕ) → Decides (is_one_of n ks) (Contains ks n)
 one_of_decides n [] = ((λ h. absurd (cc)), (λ h. absurd (omega (arith, h.1))))
 one_of_decides n (k ∷ ks) = one_more n k ks (one_of_decides n ks)
@@ -59,7 +59,7 @@ after_call_decides : (bundles : List Bundle) (n : ℕ) → Decides (nat_le 1 n &
 after_call_decides bundles n =
     Decides-and (nat_le 1 n) (holds_call (slice_get bundles (n - 1))) (Decides-ltb 0 n) (bundle_decides (slice_get bundles (n - 1)))
 
--- the test of entries
+-- The test of entries.
 pub entry_decides : (p : Program) (n : ℕ) → IsTrue (is_entry p n) ↔ IsEntry p n
 unfolding is_entry
 entry_decides p n = ((λ h. let e = both.0 h in record { inside = e.0; kind = e.1 }), (λ e. both.1 (e.inside, e.kind)))
@@ -72,7 +72,7 @@ entry_decides p n = ((λ h. let e = both.0 h in record { inside = e.0; kind = e.
     both : Decides (nat_lt n (length p.bundles) && ((n == 0) || (is_one_of n p.entries || (nat_le 1 n && holds_call (slice_get p.bundles (n - 1)))))) ((n < length p.bundles) × ((n ≡ 0) ⊎ (Contains p.entries n ⊎ IsAfterCall p.bundles n)))
     both = Decides-and (nat_lt n (length p.bundles)) ((n == 0) || (is_one_of n p.entries || (nat_le 1 n && holds_call (slice_get p.bundles (n - 1))))) (Decides-ltb n (length p.bundles)) kinds
 
--- a test that says whether a bundle is an entry is that of entries
+-- A test that says whether a bundle is an entry is that of entries.
 pub entry_same : (p : Program) (n : ℕ) (b : Bool) → IsTrue b ↔ IsEntry p n → b ≡ is_entry p n
 entry_same p n b h = same_from_decides b (is_entry p n) h (entry_decides p n)
 
@@ -81,7 +81,7 @@ stop_after_decides template (Three a b c) slot = one_of_decides slot (stops_of t
 stop_after_decides template (Long first long) slot =
     Decides-and (slot == 1) (is_one_of 2 (stops_of template)) (Decides-eqb slot 1) (one_of_decides 2 (stops_of template))
 
--- the test of stops
+-- The test of stops.
 pub stop_decides : (bundles : List Bundle) (place : Place) → IsTrue (is_stopped bundles place) ↔ IsStopped bundles place
 unfolding is_stopped
 stop_decides bundles place = of (slice_get bundles place.bundle)
@@ -90,11 +90,11 @@ stop_decides bundles place = of (slice_get bundles place.bundle)
     of None = ((λ h. absurd (cc)), (λ h. absurd h))
     of (Some b) = stop_after_decides b.template b.slots place.slot
 
--- a test that says whether a stop follows a place is that of stops
+-- A test that says whether a stop follows a place is that of stops.
 pub stop_same : (bundles : List Bundle) (place : Place) (b : Bool) → IsTrue b ↔ IsStopped bundles place → b ≡ is_stopped bundles place
 stop_same bundles place b h = same_from_decides b (is_stopped bundles place) h (stop_decides bundles place)
 
--- this is the next place, or there is none
+-- This is the next place, or there is none.
 abbrev pub FitsNext : List Bundle → Place → Option Place → Type 0
 FitsNext bundles place o = MatchOption o ((q : Place) → IsPlaceOf bundles q → IsBefore place q → ⊥) (λ next. IsNext bundles place next)
 
@@ -107,7 +107,7 @@ next_in_bundle bundles place b is = of (nat_lt place.slot (last_slot b.slots)) (
     of false true e f = next_bundle bundles place b is (grind (arith, nat_tests)) (grind (arith, nat_tests))
     of false false e f = no_next bundles place b is (grind (arith, nat_tests)) (grind (arith, nat_tests))
 
--- the function of next places
+-- The function of next places.
 pub next_fits : (bundles : List Bundle) (place : Place) → FitsNext bundles place (next_of bundles place)
 unfolding next_of
 next_fits bundles place = of (slice_get bundles place.bundle) refl
@@ -122,7 +122,7 @@ before_or_same p q h k =
     let slot : p.slot ≡ q.slot = grind arith in
     same_place p q bundle slot
 
--- a next place is unique
+-- A next place is unique.
 pub next_once : (bundles : List Bundle) (place p q : Place) → IsNext bundles place p → IsNext bundles place q → p ≡ q
 next_once bundles place p q h k = before_or_same p q (k.first p h.is h.after) (h.first q k.is k.after)
 
@@ -132,6 +132,6 @@ both_fit bundles place (Some p) (Some q) h k = ap Some (next_once bundles place 
 both_fit bundles place None (Some q) h k = absurd (h q k.is k.after)
 both_fit bundles place (Some p) None h k = absurd (k p h.is h.after)
 
--- what is the next place, or tells that there is none, is what the function gives
+-- What is the next place, or tells that there is none, is what the function gives.
 pub next_same : (bundles : List Bundle) (place : Place) (r : Option Place) → MatchOption r ((q : Place) → IsPlaceOf bundles q → IsBefore place q → ⊥) (λ next. IsNext bundles place next) → r ≡ next_of bundles place
 next_same bundles place r h = both_fit bundles place r (next_of bundles place) h (next_fits bundles place)

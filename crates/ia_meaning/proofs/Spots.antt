@@ -6,7 +6,7 @@ use Rattle.ia_meaning.specs.declared.state.FrameShape.{FrameShape}
 use Rattle.ia_meaning.specs.declared.state.Spot.TheVariants.{Static}
 use Rattle.ia_meaning.specs.Names.{spot}
 
--- a static register stands at its own number
+-- A static register stands at its own number.
 pub spot_static : (f : FrameShape) (n : ℕ) → n < 32 → spot f n ≡ Some (Static n)
 unfolding spot
 spot_static f n h = grind (arith, nat_tests)

@@ -42,7 +42,7 @@ zero_memory_is p program = record {
   apart = search rules;
 }
 
--- a run may start from the zero state
+-- A run may start from the zero state.
 pub zero_is_start : (p : Program) → IsProgram p → IsStart p (zero_state p)
 zero_is_start p program =
     let some = program.counts.some in
@@ -54,7 +54,7 @@ zero_is_start p program =
       promised = zero_keeps p 0 program;
     }
 
--- the test of frames says whether it is one
+-- The test of frames says whether it is one.
 pub frame_decides : (f : FrameShape) → IsTrue (is_frame f) ↔ IsFrame f
 unfolding is_frame
 frame_decides f = (λ h. record { size = grind (arith, nat_tests); locals = grind (arith, nat_tests); rotating = grind (arith, nat_tests); general = grind (arith, nat_tests); floating = grind (arith, nat_tests); predicates = grind (arith, nat_tests) }, λ is. grind (arith, nat_tests))

@@ -11,7 +11,7 @@ pub step_here : (p : Program) (s : State) (insn : Insn) → insn_at p.bundles s.
 unfolding seq_step
 step_here p s insn here = ap (step_of p s) here
 
--- a place of the program has an instruction
+-- A place of the program has an instruction.
 pub insn_here : (p : Program) (s : State) → IsPlaceOf p.bundles s.place → (insn : Insn) × (insn_at p.bundles s.place ≡ Some insn)
 insn_here p s is = of (insn_at p.bundles s.place) refl is
   where
@@ -19,7 +19,7 @@ insn_here p s is = of (insn_at p.bundles s.place) refl is
     of None e is = absurd (cc)
     of (Some insn) e is = (insn, e)
 
--- what holds of its step holds of the state's
+-- What holds of its step holds of the state's.
 pub by_insn : (Q : Step → Type 0) (p : Program) (s : State) → IsPlaceOf p.bundles s.place
     → ((insn : Insn) → insn_at p.bundles s.place ≡ Some insn → Q (step_of p s (Some insn))) → Q (seq_step p s)
 by_insn Q p s is each = of (insn_here p s is)

@@ -10,7 +10,7 @@ use Rattle.ia_meaning.specs.Names.{predicate_index}
 use Rattle.ia_meaning.specs.Actions.{is_branch, insn_action}
 use Rattle.ia_meaning.specs.Views.{sees_static, sees_predicate, sees_branch, sees_pfs, seen_in, view}
 
--- where nothing is seen the list is the start's
+-- Where nothing is seen the list is the start's.
 pub seen_none : {X : Type 0} (sees : ℕ → Bool) → ((n : ℕ) → sees n ≡ false) → (n : ℕ) (base now : List X) → seen_in sees n base now ≡ base
 seen_none sees h n [] now = refl
 seen_none sees h n (x ∷ base) [] = refl
@@ -20,7 +20,7 @@ same_choice : {X : Type 0} (b : Bool) (d : X) → d ≡ (if b then d else d)
 same_choice true d = refl
 same_choice false d = refl
 
--- an item of the list is that of one of the two
+-- An item of the list is that of one of the two.
 pub seen_at : {X : Type 0} (sees : ℕ → Bool) (n k : ℕ) (base now : List X) (d : X) → length now ≡ length base → get_or (seen_in sees n base now) k d ≡ (if sees (n + k) then get_or now k d else get_or base k d)
 seen_at sees n k [] [] d e = same_choice (sees (n + k)) d
 seen_at sees n k [] (y ∷ now) d e = absurd (omega arith)
@@ -30,13 +30,13 @@ seen_at sees n (suc k) (x ∷ base) (y ∷ now) d e =
     let same : n + suc k ≡ suc n + k = omega arith in
     seen_at sees (suc n) k base now d (omega arith) ∙ ap (λ i. if sees i then get_or now k d else get_or base k d) (sym same)
 
--- there are as many as at the start
+-- There are as many as at the start.
 pub length_seen : {X : Type 0} (sees : ℕ → Bool) (n : ℕ) (base now : List X) → length (seen_in sees n base now) ≡ length base
 length_seen sees n [] now = refl
 length_seen sees n (x ∷ base) [] = refl
 length_seen sees n (x ∷ base) (y ∷ now) = ap suc (length_seen sees (suc n) base now)
 
--- what is no branch sees nothing of earlier slots
+-- What is no branch sees nothing of earlier slots.
 sees_no_branch : (f : Action) (b : ℕ) → is_branch f ≡ false → sees_branch f b ≡ false
 sees_no_branch (action.JumpIndirect b2) b e = absurd (true≢false e)
 sees_no_branch (action.Call b1 callee) b e = absurd (true≢false e)

@@ -19,7 +19,7 @@ use Rattle.ia_meaning.specs.Progress.{Progress, begun, opened, slots_after, step
 use Rattle.ia_meaning.specs.Runs.{IsUnderWay, HasRun, run_text, progress_text}
 use Rattle.ia_meaning.proofs.GroupEnds.{begun_under_way, group_under_way, group_comes_to_end, groups_ended}
 
--- the range after frame changes and more of them
+-- The range after frame changes and more of them.
 pub range_appended : (r : Rse) (changes more : List (ℕ × ℕ)) → range_of (range_of r changes) more ≡ range_of r (changes ++ more)
 range_appended r [] more = refl
 range_appended r (change ∷ changes) more = range_appended (range_after r change) changes more
@@ -41,7 +41,7 @@ advanced_is p m none = rw none refl
 ends_no_run : (p : Program) (s : State) (o : Outcome) (way : Next) → (step_by p s o way).how ≡ None → (step_by p s o way).end ≡ None
 ends_no_run p s o way e = grind arith
 
--- a step that ends no group ends no run
+-- A step that ends no group ends no run.
 pub step_goes_on : (p : Program) (s : State) → (seq_step p s).how ≡ None → (seq_step p s).end ≡ None
 unfolding seq_step
 step_goes_on p s = of (insn_at p.bundles s.place)
@@ -53,7 +53,7 @@ step_goes_on p s = of (insn_at p.bundles s.place)
 rest_more : (k : ℕ) (next rest : Progress) → rest_by (k + 1) next rest ≡ rest
 rest_more k next rest = rw add-one refl
 
--- a run under way has come from within a group to its end
+-- A run under way has come from within a group to its end.
 pub record HasGroup (m after : Progress) (group : Group) : Type 0 where
   pub state : after.state ≡ group.state
   pub end : after.end ≡ group.end
@@ -80,7 +80,7 @@ stepped_comes_to_end most p m s comes =
     step_group p s m (seq_step p s) (to_group_end most p (stepped m (seq_step p s))) (group_within most p (seq_step p s).state) (seq_step p s).how
     (λ e. comes (stepped m (seq_step p s)) (step_goes_on p s e) m.slots (after_step m.slots (seq_step p s).how e))
 
--- one slot more at the front
+-- One slot more at the front.
 next_comes_to_end : (most : ℕ) (p : Program) (m : Progress) → m.end ≡ None → ComesToEnd most p → HasGroup (opened m) (to_group_end (suc most) p m) (group_within (suc most) p m.state)
 next_comes_to_end most p m none comes =
     subst (λ (a : Progress). HasGroup (opened m) (rest_by a.slots a (to_group_end most p a)) (group_within (suc most) p m.state)) (sym (advanced_is p m none))
@@ -97,7 +97,7 @@ pub group_is : (p : Program) (m : Progress) → m.end ≡ None → HasGroup (ope
 unfolding group_further
 group_is p m none = next_comes_to_end (RUN_LIMIT - 1) p m none (comes_to_end (RUN_LIMIT - 1) p)
 
--- a run under way has come from between two groups to where a run leaves off
+-- A run under way has come from between two groups to where a run leaves off.
 pub record HasRest (m after : Progress) (run : Run) : Type 0 where
   pub state : after.state ≡ run.state
   pub end : end_of after ≡ run.end
@@ -107,7 +107,7 @@ pub record HasRest (m after : Progress) (run : Run) : Type 0 where
 ends_at : (m : Progress) (e : End) → m.end ≡ Some e → end_of m ≡ e
 ends_at m e is = rw is refl
 
--- the first group of a run, and the rest
+-- The first group of a run, and the rest.
 run_step : (m next after : Progress) (group : Group) (event : GroupEvent) (rest : Run) → HasGroup (record m { groups = m.groups + 1; first = m.state.place }) next group → ((e : End) → next.end ≡ Some e → after ≡ next) → (next.end ≡ None → HasRest next after rest) → (e : Option End) → group.end ≡ e → HasRest m after (run_by group event e rest)
 run_step m next after group event rest has ended goes (Some e) is =
     let at : next.end ≡ Some e = has.end ∙ is in

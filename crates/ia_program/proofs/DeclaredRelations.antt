@@ -9,17 +9,17 @@ use Rattle.ia_program.specs.declared.relations.Relation.{Relation}
 use Rattle.ia_program.specs.Bundles.{Bundle}
 use Rattle.ia_program.specs.Programs.{relations_at, relation_at, no_relation, IsCountBelow, IsRelationBefore, IsRelationAt, AreRelations}
 
--- relations are the same where their bundles and their predicates are
+-- Relations are the same where their bundles and their predicates are.
 pub same_relation : (r s : Relation) → r.bundle ≡ s.bundle → r.p ≡ s.p → r.q ≡ s.q → r ≡ s
 same_relation r s bundle p q = λ i. record { bundle = bundle i; p = p i; q = q i }
 
--- a test passes exactly what stands from s on and before e
+-- A test passes exactly what stands from s on and before e.
 record PassesFrom {X : Type 0} (p : X → Bool) (xs : List X) (s e : ℕ) (d : X) : Type 0 where
   before : (k : ℕ) → k < s → k < length xs → p (get_or xs k d) ≡ false
   within : (k : ℕ) → s ≤ k → k < e → k < length xs → p (get_or xs k d) ≡ true
   after : (k : ℕ) → e ≤ k → k < length xs → p (get_or xs k d) ≡ false
 
--- a filter by such a test gives what stands there
+-- A filter by such a test gives what stands there.
 segment : {X : Type 0} (p : X → Bool) (d : X) (xs : List X) (s e : ℕ) → s ≤ e → PassesFrom p xs s e d → take (e - s) (drop s xs) ≡ filter p xs
 segment {X = X} p d [] s e le h = rw (drop_all {X = X} s [] (omega arith)) (take-nil (e - s))
 segment p d (x ∷ xs) zero zero le h =
@@ -57,7 +57,7 @@ found_between relations bundle start end a b = segment (λ r. r.bundle == bundle
   after = λ k from inside. let high = b.others k from inside in grind arith;
 })
 
--- the bundles of these relations don't fall
+-- The bundles of these relations don't fall.
 abbrev pub IsInOrder : List Relation → Type 0
 IsInOrder relations = IsNonDecreasingBy (λ r. r.bundle) relations
 

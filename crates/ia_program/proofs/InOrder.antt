@@ -7,7 +7,7 @@ use Rattle.ia_program.specs.declared.bundle.Slots.{Slots}
 use Rattle.ia_program.specs.Bundles.{Bundle, slot_insn, last_slot}
 use Rattle.ia_program.specs.Places.{bundle_insn, insn_at, IsPlaceOf, IsBefore, IsNext}
 
--- a slot has an instruction exactly up to the last
+-- A slot has an instruction exactly up to the last.
 pub slot_within : (slots : Slots) (slot : ℕ) → IsSome (slot_insn slots slot) → slot ≤ last_slot slots
 slot_within slots slot h = grind (arith, nat_tests)
 
@@ -17,7 +17,7 @@ within_slot slots slot h = grind (arith, nat_tests)
 last_small : (slots : Slots) → last_slot slots ≤ 2
 last_small slots = grind arith
 
--- a place lies in a bundle
+-- A place lies in a bundle.
 pub record LiesIn (bundles : List Bundle) (place : Place) : Type 0 where
   pub bundle : Bundle
   pub is : slice_get bundles place.bundle ≡ Some bundle
@@ -51,7 +51,7 @@ get_some [] n h = absurd (omega arith)
 get_some (x ∷ xs) zero h = (x, refl)
 get_some (x ∷ xs) (suc n) h = get_some xs n (omega arith)
 
--- a place of a bundle comes no later than its last slot
+-- A place of a bundle comes no later than its last slot.
 not_after_last : (bundles : List Bundle) (n : ℕ) (b : Bundle) (q : Place) → slice_get bundles n ≡ Some b → q.bundle ≡ n → IsPlaceOf bundles q → q.slot ≤ last_slot b.slots
 not_after_last bundles n b q is at h =
     let l = lies_in bundles q h in
@@ -59,7 +59,7 @@ not_after_last bundles n b q is at h =
     let f : l.bundle ≡ b = cc in
     subst (λ (x : Bundle). q.slot ≤ last_slot x.slots) f l.within
 
--- the next place, where the bundle has one
+-- The next place, where the bundle has one.
 pub next_slot : (bundles : List Bundle) (place : Place) (b : Bundle) → slice_get bundles place.bundle ≡ Some b → place.slot < last_slot b.slots → IsNext bundles place (record { bundle = place.bundle; slot = place.slot + 1 })
 next_slot bundles place b is h = record {
   is = is_place bundles (record { bundle = place.bundle; slot = place.slot + 1 }) b is (omega arith);
@@ -70,7 +70,7 @@ next_slot bundles place b is h = record {
     between : (q : Place) → IsPlaceOf bundles q → IsBefore place q → IsBefore q (record { bundle = place.bundle; slot = place.slot + 1 }) → ⊥
     between q p after before = grind arith
 
--- the first place of the next bundle, after the last one of a bundle
+-- The first place of the next bundle, after the last one of a bundle.
 pub next_bundle : (bundles : List Bundle) (place : Place) (b : Bundle) → slice_get bundles place.bundle ≡ Some b → last_slot b.slots ≤ place.slot → place.bundle + 1 < length bundles → IsNext bundles place (record { bundle = place.bundle + 1; slot = 0 })
 next_bundle bundles place b is h inside = record {
   is = let s = get_some bundles (place.bundle + 1) inside in is_place bundles (record { bundle = place.bundle + 1; slot = 0 }) s.0 s.1 (omega arith);
@@ -83,7 +83,7 @@ next_bundle bundles place b is h inside = record {
     between q p (inl after) (inr before) = omega arith
     between q p (inr after) before = let l = not_after_last bundles place.bundle b q is (sym after.0) p in omega arith
 
--- no place comes after the last one
+-- No place comes after the last one.
 pub no_next : (bundles : List Bundle) (place : Place) (b : Bundle) → slice_get bundles place.bundle ≡ Some b → last_slot b.slots ≤ place.slot → length bundles ≤ place.bundle + 1 → (q : Place) → IsPlaceOf bundles q → IsBefore place q → ⊥
 no_next bundles place b is h end q p (inl after) = let s = bundle_small bundles q p in omega arith
 no_next bundles place b is h end q p (inr after) = let l = not_after_last bundles place.bundle b q is (sym after.0) p in omega arith

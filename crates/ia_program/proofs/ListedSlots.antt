@@ -13,7 +13,7 @@ use Rattle.ia_program.specs.Programs.{Program, IsProgram}
 use Rattle.ia_program.specs.Fits.{FitsUnit}
 use Rattle.ia_program.specs.Listed.{IsListed}
 
--- each instruction of the slots has P
+-- Each instruction of the slots has P.
 abbrev EachSlot : (Insn → Type 0) → Slots → Type 0
 EachSlot P (Three a b c) = P a × P b × P c
 EachSlot P (Long first long) = P first × P long
@@ -29,7 +29,7 @@ at_slot P (Three a b c) n i h e =
 at_slot P (Long first long) n i h e =
     chosen P (n == 0) first _ i h.0 (λ e. chosen P (n == 1) long None i h.1 (λ e. absurd (cc)) e) e
 
--- an instruction that fits a unit is listed
+-- An instruction that fits a unit is listed.
 pub unit_listed : (i : Insn) (u : ExecutionUnit) (slot : ℕ) → FitsUnit i u slot → IsListed i
 unit_listed i u slot h = grind arith
 
@@ -43,7 +43,7 @@ slots_listed (u ∷ []) slots h = absurd h
 slots_listed (u ∷ v ∷ []) slots h = absurd h
 slots_listed (u ∷ v ∷ w ∷ x ∷ more) slots h = absurd h
 
--- an instruction of a bundle is listed
+-- An instruction of a bundle is listed.
 listed_in : (b : Bundle) (slot : ℕ) (i : Insn) → IsBundle b → slot_insn b.slots slot ≡ Some i → IsListed i
 listed_in b slot i fit e = at_slot IsListed b.slots slot i (slots_listed (units_of b.template) b.slots fit) e
 
@@ -51,7 +51,7 @@ in_bundle : (o : Option Bundle) (slot : ℕ) (i : Insn) → IfSome o IsBundle �
 in_bundle None slot i h e = absurd (cc)
 in_bundle (Some b) slot i h e = listed_in b slot i h e
 
--- the instruction at a place of a program is listed
+-- The instruction at a place of a program is listed.
 pub listed_at : (p : Program) (place : Place) (i : Insn) → IsProgram p → insn_at p.bundles place ≡ Some i → IsListed i
 unfolding insn_at
 listed_at p place i program e = in_bundle (slice_get p.bundles place.bundle) place.slot i (program.fit place.bundle) e

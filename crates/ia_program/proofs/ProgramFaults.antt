@@ -14,7 +14,7 @@ use Rattle.ia_program.specs.Targets.{IsTargetInside}
 use Rattle.ia_program.specs.Programs.{Program, AreInRange, AreEntries, IsEntryAt, IsFirstMisplaced, AreRelations, IsRelationAt, IsFirstMisdeclared, IsProgram, program_stages, HasProgramFault}
 use Rattle.ia_program.proofs.Reaching.{order}
 
--- one place is the first bad one
+-- One place is the first bad one.
 pub one_first_bad : (bundles : List Bundle) (Good : Place → Type 0) (p q : Place) → IsFirstBad bundles Good p → IsFirstBad bundles Good q → p ≡ q
 one_first_bad bundles Good p q a b = elim (order p q) [
   | inl less ↦ absurd (a.bad (b.first p a.is less))
@@ -22,7 +22,7 @@ one_first_bad bundles Good p q a b = elim (order p q) [
   | inr (inr same) ↦ same
 ]
 
--- the search for a bad place, and for a misplaced entry, finds at most one and none where all are good
+-- The search for a bad place, and for a misplaced entry, finds at most one and none where all are good.
 pub first_bad_sound : {Fault : Type 0} (fault : Place → Fault) (bundles : List Bundle) (Good : Place → Type 0) → IsSound (first Place fault (IsFirstBad bundles Good) (EachPlace bundles Good))
 first_bad_sound fault bundles Good = record { one = one_first_bad bundles Good; none = λ p bad each. bad.bad (each p bad.is) }
 

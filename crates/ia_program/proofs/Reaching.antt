@@ -9,15 +9,15 @@ use Rattle.ia_program.specs.Runs.{EndsRun, StandBefore, IsWithinRun}
 use Rattle.ia_program.specs.Targets.{IsTargetInside}
 use Rattle.ia_program.proofs.InOrder.{slot_small, bundle_small, is_place, get_some}
 
--- places are the same where their numbers of bundle and slot are
+-- Places are the same where their numbers of bundle and slot are.
 pub same_place : (p q : Place) → p.bundle ≡ q.bundle → p.slot ≡ q.slot → p ≡ q
 same_place p q b s = λ i. record { bundle = b i; slot = s i }
 
--- the place with the number of a place with a slot 0 to 2 is that place
+-- The place with the number of a place with a slot 0 to 2 is that place.
 pub place_at-number : (q : Place) → q.slot < 3 → place_at (place_number q) ≡ q
 place_at-number q h = same_place (place_at (place_number q)) q (omega arith) (omega arith)
 
--- of two places one comes first, or they are one
+-- Of two places one comes first, or they are one.
 pub order : (p q : Place) → IsBefore p q ⊎ (IsBefore q p ⊎ (p ≡ q))
 order p q = elim (sides p.bundle q.bundle) [
   | inl less ↦ inl (inl less)
@@ -37,12 +37,12 @@ pub record IsReached (bundles : List Bundle) (Good : Place → Type 0) (place : 
   pub is : IsPlaceOf bundles place
   pub before : (q : Place) → IsPlaceOf bundles q → IsBefore q place → Good q
 
--- how far a pass over the places is: at a place, or past all
+-- How far a pass over the places is: at a place, or past all.
 abbrev pub HasReached : List Bundle → (Place → Type 0) → Option Place → Type 0
 HasReached bundles Good None = EachPlace bundles Good
 HasReached bundles Good (Some place) = IsReached bundles Good place
 
--- what comes after a place
+-- What comes after a place.
 abbrev pub Follows : List Bundle → Place → Option Place → Type 0
 Follows bundles place next = MatchOption next ((q : Place) → IsPlaceOf bundles q → IsBefore place q → ⊥) (λ n. IsNext bundles place n)
 
@@ -56,7 +56,7 @@ first_reached bundles Good some = record {
     none q p (inl less) = absurd (omega arith)
     none q p (inr less) = absurd (omega (arith, less.1))
 
--- a good place, and the pass goes on to the next
+-- A good place, and the pass goes on to the next.
 pub goes_on : (bundles : List Bundle) (Good : Place → Type 0) (place : Place) (next : Option Place) → IsReached bundles Good place → Good place → Follows bundles place next → HasReached bundles Good next
 goes_on bundles Good place None r good none = all
   where
@@ -75,14 +75,14 @@ goes_on bundles Good place (Some next) r good is = record { is = is.is; before =
       | inr (inr same) ↦ subst Good (sym same) good
     ]
 
--- the target is inside, and the instructions of the place's bundle fit it
+-- The target is inside, and the instructions of the place's bundle fit it.
 abbrev pub IsSound : List Bundle → Place → Type 0
 IsSound bundles place = IsTargetInside bundles place × IfSome (slice_get bundles place.bundle) IsBundle
 
 pub first_outside : (bundles : List Bundle) (place : Place) → IsReached bundles (IsSound bundles) place → ¬ IsTargetInside bundles place → IsFirstBad bundles (IsTargetInside bundles) place
 first_outside bundles place r bad = record { is = r.is; bad = bad; first = λ q p before. (r.before q p before).0 }
 
--- where each place is sound, so is each bundle
+-- Where each place is sound, so is each bundle.
 pub all_sound : (bundles : List Bundle) → EachPlace bundles (IsSound bundles) → EachPlace bundles (IsTargetInside bundles) × AreBundles bundles
 all_sound bundles each = (λ q p. (each q p).0, λ n. of n (slice_get bundles n) refl)
   where
@@ -93,7 +93,7 @@ all_sound bundles each = (λ q p. (each q p).0, λ n. of n (slice_get bundles n)
 pub first_bad : (bundles : List Bundle) (Good : Place → Type 0) (place : Place) → IsReached bundles Good place → ¬ Good place → IsFirstBad bundles Good place
 first_bad bundles Good place r bad = record { is = r.is; bad = bad; first = r.before }
 
--- how many slots are left at most
+-- How many slots are left at most.
 abbrev pub slots_left : ℕ → Option Place → ℕ
 slots_left count None = 0
 slots_left count (Some place) = 3 * (count - place.bundle) + 3 - place.slot
@@ -134,7 +134,7 @@ first_run bundles = record { slots = []; stand = tt; count = refl; most = none }
     none [] stand = omega arith
     none (p ∷ ps) stand = absurd (before_first p stand.1.after)
 
--- a place comes next after one place alone
+-- A place comes next after one place alone.
 one_before : (bundles : List Bundle) (p q next : Place) → IsPlaceOf bundles p → IsPlaceOf bundles q → IsNext bundles p next → IsNext bundles q next → p ≡ q
 one_before bundles p q next is other after later = elim (order p q) [
   | inl less ↦ absurd (after.first q other less later.after)
@@ -142,7 +142,7 @@ one_before bundles p q next is other after later = elim (order p q) [
   | inr (inr same) ↦ same
 ]
 
--- a run that ends at a place: none of its slots stand before the next
+-- A run that ends at a place: none of its slots stand before the next.
 pub run_ends : (bundles : List Bundle) (place : Place) (next : Option Place) → IsPlaceOf bundles place → EndsRun bundles place → Follows bundles place next → HasRun bundles next 0
 run_ends bundles place None is ends none = tt
 run_ends bundles place (Some next) is ends follows = record { slots = []; stand = tt; count = refl; most = none }
@@ -151,7 +151,7 @@ run_ends bundles place (Some next) is ends follows = record { slots = []; stand 
     none [] stand = omega arith
     none (p ∷ ps) stand = absurd (stand.2 (subst (EndsRun bundles) (one_before bundles place p next is stand.0 follows stand.1) ends))
 
--- a run that doesn't end there has one slot more
+-- A run that doesn't end there has one slot more.
 pub run_goes_on : (bundles : List Bundle) (place : Place) (next : Option Place) (run : ℕ) → IsPlaceOf bundles place → ¬ EndsRun bundles place → IsRunOf bundles place run → Follows bundles place next → HasRun bundles next (run + 1)
 run_goes_on bundles place None run is on r none = tt
 run_goes_on bundles place (Some next) run is on r follows = record { slots = place ∷ r.slots; stand = (is, follows, on, r.stand); count = omega (arith, r.count); most = most }

@@ -10,7 +10,7 @@ use Rattle.ia_program.specs.Bundles.{IsStopAfter}
 stop_small : (template slot : ℕ) → Contains (stops_of template) slot → slot < 3
 stop_small template slot h = grind (arith, nat_tests)
 
--- no stop stands after a slot beyond slot 2
+-- No stop stands after a slot beyond slot 2.
 pub no_stop_beyond : (template : ℕ) (slots : Slots) (slot : ℕ) → IsStopAfter template slots slot → slot < 3
 no_stop_beyond template (Three a b c) slot h = stop_small template slot h
 no_stop_beyond template (Long first long) slot h = omega (arith, h.0)

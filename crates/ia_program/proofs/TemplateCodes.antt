@@ -13,7 +13,7 @@ picked : (test answer : Bool) → cond test answer true ≡ true → test ≡ tr
 picked true answer h is = h
 picked false answer h is = absurd (cc)
 
--- a number for the units and the stops
+-- A number for the units and the stops.
 abbrev digit : ExecutionUnit → ℕ
 digit M = 0
 digit I = 1
@@ -30,7 +30,7 @@ key_of (unit ∷ units) stops = digit unit + 6 * key_of units stops
 abbrev key : ℕ → ℕ
 key code = key_of (units_of code) (stops_of code)
 
--- two templates with one number have one code
+-- Two templates with one number have one code.
 abbrev is_one : ℕ → ℕ → Bool
 is_one a b = cond (is_some (shape_of (a / 2)) && (is_some (shape_of (b / 2)) && eqb (key a) (key b))) (eqb a b) true
 
@@ -44,6 +44,6 @@ one_template a b h k first second units stops =
     let keys : key a ≡ key b = ap (λ us. key_of us (stops_of a)) units ∙ ap (key_of (units_of b)) stops in
     eqb-true a b (picked _ _ here (both_true first (both_true second (eq-eqb (key a) (key b) keys))))
 
--- a code is below 32
+-- A code is below 32.
 pub code_small : (code : ℕ) → IsTemplate code → code < 32
 code_small code h = grind (arith, nat_tests)

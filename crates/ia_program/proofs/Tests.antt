@@ -2,16 +2,16 @@
 use Rattle.std.proofs.Common.{◌≡◌, ℕ, zero, suc, ◌<◌, ◌⊎◌, inl, inr, Bool, true, ◌&&◌, sym, subst, arith}
 pub use Rattle.bundle_bits.proofs.Words.{both-left as left, both-right as right}
 
--- a test of each number below a bound
+-- A test of each number below a bound.
 abbrev pub all_below : (ℕ → Bool) → ℕ → Bool
 all_below p zero = true
 all_below p (suc n) = p n && all_below p n
 
--- a number below the next one is that one or below it
+-- A number below the next one is that one or below it.
 pub last_or_below : (k n : ℕ) → k < suc n → (k ≡ n) ⊎ (k < n)
 last_or_below k n h = grind arith
 
--- what holds of each number below a bound holds of one
+-- What holds of each number below a bound holds of one.
 pub below : (p : ℕ → Bool) (n k : ℕ) → all_below p n ≡ true → k < n → p k ≡ true
 below p zero k all h = absurd (omega arith)
 below p (suc n) k all h =

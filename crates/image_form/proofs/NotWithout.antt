@@ -27,7 +27,7 @@ use Rattle.image_form.proofs.RelationBytes.{length-relations_in}
 use Rattle.image_form.proofs.Spelled.{same_bundles, all_spelled, spelled_fit}
 use Rattle.image_form.proofs.Wholes.{ArePartsOf, IsPaddedImage, length-bundle_bytes, counts_right, entries_right, after_entries_are, image_of_parts, raw_counts}
 
--- sixteen bytes are bytes
+-- Sixteen bytes are bytes.
 sixteen : (bytes : List ℕ) (n : ℕ) → 16 * n + 16 ≤ length bytes → AreBytes bytes → AreSixteen (chunk bytes n)
 sixteen bytes n inside are = record { count = simp (length-take, length-drop) (omega arith); small = bytes_take 16 (drop (16 * n) bytes) (bytes_drop (16 * n) bytes are) }
 
@@ -44,7 +44,7 @@ lower_number : (q : Place) (i : ℕ) → q.slot < 3 → IsBefore q (place_at i) 
 lower_number q i small (inl less) = omega arith
 lower_number q i small (inr less) = omega (arith, less.0, less.1)
 
--- where no place is the first bad one, it can't be that not all are good
+-- Where no place is the first bad one, it can't be that not all are good.
 none_first_bad : (bundles : List Bundle) (Good : Place → Type 0) → ((p : Place) → IsFirstBad bundles Good p → ⊥) → (EachPlace bundles Good → ⊥) → ⊥
 none_first_bad bundles Good none go =
     none_first IsGood (3 * length bundles)
@@ -87,7 +87,7 @@ after_relations_are bytes are = bytes_drop (8 * relation_count bytes) (after_ent
 bundle_bytes_are : (bytes : List ℕ) → AreBytes bytes → AreBytes (bundle_bytes bytes)
 bundle_bytes_are bytes are = bytes_take (16 * bundle_count bytes) (after_relations bytes) (after_relations_are bytes are)
 
--- where the stages of the head are passed, it is right
+-- Where the stages of the head are passed, it is right.
 head_of : (v : Version) (bytes : List ℕ) → 24 ≤ length bytes → Begins v bytes → AreCounts bytes → length bytes ≡ image_length bytes → HasHead v bytes
 head_of v bytes long begins counts size = record { long = long; begins = begins; counts = counts v begins; size = size }
 
@@ -130,12 +130,12 @@ bundles_of one bytes later (any, (targets, (runs, others))) = record {
   runs = subst (λ (l : List Bundle). EachPlace l (IsWithinRun l)) (same_bundles one bytes runs.0 targets.0 runs.1 targets.1) runs.2;
 }
 
--- the relations are right for all bundles that have the bytes
+-- The relations are right for all bundles that have the bytes.
 relations_of_passed : codec.OneBundle → (spelled entries : List ℕ) (relations : List Relation) (bytes : List ℕ) → ArePassed (bundle_stages spelled (relation_stage spelled entries relations bytes ∷ [])) → (bundles : List Bundle) → AreSpelled bundles spelled → AreRelationsRight bundles entries relations bytes
 relations_of_passed one spelled entries relations bytes (any, (targets, (runs, (right, done)))) bundles is =
     subst (λ (l : List Bundle). AreRelationsRight l entries relations bytes) (same_bundles one spelled right.0 bundles right.1 is) right.2
 
--- where every stage is passed, a program has the image
+-- Where every stage is passed, a program has the image.
 image_of : codec.OneBundle → (bytes : List ℕ) → AreBytes bytes → ArePassed (image_stages bytes) → (p : Program) × Spells p bytes
 image_of one bytes are (long, (begins, (counts, (size, (entries, passed))))) = (p, (begins.0, image_of_parts begins.0 p bytes are program parts padded))
   where

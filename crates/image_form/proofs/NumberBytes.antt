@@ -15,11 +15,11 @@ one-more (suc n) bytes =
     let e : drop (4 * n) (drop 4 bytes) ≡ drop (4 * suc n) bytes = drop-drop (4 * n) 4 bytes ∙ ap (λ k. drop k bytes) (omega arith) in
     ap (λ l. number_at bytes 0 ∷ l) (one-more n (drop 4 bytes) ∙ ap (λ l. numbers n (drop 4 bytes) ++ from_le_bytes w32 (take 4 l) ∷ []) e)
 
--- one number more is read
+-- One number more is read.
 pub one_more_read : (n : ℕ) (bytes : List ℕ) → numbers (n + 1) bytes ≡ numbers n bytes ++ number_at bytes (4 * n) ∷ []
 one_more_read n bytes = ap (λ k. numbers k bytes) (let e : n + 1 ≡ suc n = omega arith in e) ∙ one-more n bytes
 
--- one number more is written
+-- One number more is written.
 pub one_more_written : (old ns : List ℕ) (n : ℕ) → n < length ns → (old ++ number_bytes (take n ns)) ++ to_le_bytes w32 (slice_index ns n) ≡ old ++ number_bytes (take (n + 1) ns)
 one_more_written old ns n inside =
     flat_map_more (to_le_bytes w32) old (take n ns) (slice_index ns n) ∙ ap (λ l. old ++ number_bytes l) (sym (take_more ns n 0 inside))
@@ -33,7 +33,7 @@ bytes_take (suc n) (b ∷ bytes) are (suc i) = bytes_take n bytes (λ k. are (su
 pub bytes_drop : (n : ℕ) (bytes : List ℕ) → AreBytes bytes → AreBytes (drop n bytes)
 bytes_drop n bytes are i = rw (get_or-drop n bytes i 0) (are (n + i))
 
--- how many numbers are read
+-- How many numbers are read.
 pub length-numbers : (n : ℕ) (bytes : List ℕ) → length (numbers n bytes) ≡ n
 length-numbers zero bytes = refl
 length-numbers (suc n) bytes = ap suc (length-numbers n (drop 4 bytes))
@@ -41,7 +41,7 @@ length-numbers (suc n) bytes = ap suc (length-numbers n (drop 4 bytes))
 pub first_four : (bytes : List ℕ) → 4 ≤ length bytes → AreBytes bytes → to_le_bytes w32 (number_at bytes 0) ≡ take 4 bytes
 first_four bytes long are = le_bytes_4 (take 4 bytes) (number_at bytes 0) (simp length-take (omega arith)) (bytes_take 4 bytes are) refl
 
--- what was read is written as it was
+-- What was read is written as it was.
 pub number_bytes-numbers : (n : ℕ) (bytes : List ℕ) → 4 * n ≤ length bytes → AreBytes bytes → number_bytes (numbers n bytes) ≡ take (4 * n) bytes
 number_bytes-numbers zero bytes fits are = refl
 number_bytes-numbers (suc n) bytes fits are =
@@ -55,7 +55,7 @@ number_bytes-numbers (suc n) bytes fits are =
 abbrev pub FitFour : List ℕ → Type 0
 FitFour ns = (k : ℕ) → k < length ns → slice_index ns k < 2 ^ 32
 
--- what was written is read as it was
+-- What was written is read as it was.
 pub numbers-number_bytes : (ns : List ℕ) → FitFour ns → numbers (length ns) (number_bytes ns) ≡ ns
 numbers-number_bytes [] fit = refl
 numbers-number_bytes (n ∷ ns) fit =

@@ -32,7 +32,7 @@ pub one_raw_program : codec.OneBundle → OneRawProgram
 one_raw_program one bytes p q s t =
     same_program p q (same_bundles one bytes p.bundles q.bundles s.spelled t.spelled) (s.no_entries ∙ sym t.no_entries) (s.no_data ∙ sym t.no_data) (s.no_relations ∙ sym t.no_relations)
 
--- the relations of an image are right
+-- The relations of an image are right.
 relations_right : (v : Version) (p : Program) (bytes : List ℕ) → IsImage v p bytes → AreRelationsRight p.bundles (entries_of bytes) (relations_of bytes) (relation_bytes bytes)
 relations_right v p bytes s =
     let parts = parts_of_image v p bytes s in
@@ -42,7 +42,7 @@ relations_right v p bytes s =
     let inside : n < relation_count bytes = omega (arith, ap length parts.relations, count.relations) in
     record { declared = are n less; padded = padded_image v p bytes s n inside }
 
--- the bytes of a program pass each stage of the search for a fault
+-- The bytes of a program pass each stage of the search for a fault.
 image_passed : (v : Version) (p : Program) (bytes : List ℕ) → IsImage v p bytes → ArePassed (image_stages bytes)
 image_passed v p bytes s =
     let parts = parts_of_image v p bytes s in

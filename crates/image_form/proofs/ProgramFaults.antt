@@ -22,7 +22,7 @@ pub record AreChecked (p : Program) : Type 0 where
   pub counts : AreInRange (length p.bundles) (length p.entries) (length p.bytes) (length p.relations)
   pub entries : AreEntries (length p.bundles) p.entries
 
--- a fault other than that of a relation is the first one of the bytes of the bundles
+-- A fault other than that of a relation is the first one of the bytes of the bundles.
 pub other_fault : (p : Program) (spelled : List ℕ) (later : List (Stage ImageFault)) (f : ProgramFault) → AreChecked p → AreSpelled p.bundles spelled → ((n : ℕ) → f ≡ program.Relation n → ⊥) → HasProgramFault p f → IsFirstFault (bundle_stages spelled later) (image_fault f)
 other_fault p spelled later f right is other (inl (key, same, not)) = absurd (not right.counts)
 other_fault p spelled later f right is other (inr (c, inl (n, same, bad))) = absurd (bad.misplaced (right.entries n bad.inside))
@@ -51,12 +51,12 @@ last_fault p n right (inr (c, inr (e, inr (t, inr (r, inl (k, same, bad)))))) =
     record { places = record { targets = t; runs = r }; first = subst (IsFirstMisdeclared p.bundles p.entries p.relations) number bad }
 last_fault p n right (inr (c, inr (e, inr (t, inr (r, inr none))))) = absurd none.1
 
--- a relation that isn't right is the first fault, where the places of the bundles are right
+-- A relation that isn't right is the first fault, where the places of the bundles are right.
 wrong_relation : (bundles : List Bundle) (spelled entries : List ℕ) (relations : List Relation) (bytes : List ℕ) (n : ℕ) → AreSpelled bundles spelled → ArePlacesRight bundles → IsFirstWrong bundles entries relations bytes n → IsFirstFault (bundle_stages spelled (relation_stage spelled entries relations bytes ∷ [])) (RelationFault n)
 wrong_relation bundles spelled entries relations bytes n is right first =
     inr ((bundles, is, tt), inr ((bundles, is, right.targets), inr ((bundles, is, right.runs), inl (n, refl, (bundles, is, first)))))
 
--- the first relation whose last two bytes aren't zero is the first fault of a program's
+-- The first relation whose last two bytes aren't zero is the first fault of a program's.
 pub unpadded_fault : (p : Program) (spelled bytes : List ℕ) (n : ℕ) → IsProgram p → AreSpelled p.bundles spelled → IsFirstUnpadded (length p.relations) bytes n → IsFirstFault (bundle_stages spelled (relation_stage spelled p.entries p.relations bytes ∷ [])) (RelationFault n)
 unpadded_fault p spelled bytes n right is first =
     wrong_relation p.bundles spelled p.entries p.relations bytes n is (record { targets = right.targets; runs = right.runs }) (record {
@@ -65,7 +65,7 @@ unpadded_fault p spelled bytes n right is first =
       first = λ k less. record { declared = right.relations k (omega (arith, first.inside)); padded = first.first k less };
     })
 
--- the smaller number of the first relation that may not be declared and of the first whose last two bytes aren't zero
+-- The smaller number of the first relation that may not be declared and of the first whose last two bytes aren't zero.
 first_wrong : (bundles : List Bundle) (entries : List ℕ) (relations : List Relation) (bytes : List ℕ) (n : ℕ) (unpadded : Option ℕ) → MatchOption unpadded (ArePadded (length relations) bytes) (IsFirstUnpadded (length relations) bytes) → IsFirstMisdeclared bundles entries relations n → IsFirstWrong bundles entries relations bytes (min (unwrap_or unpadded n) n)
 first_wrong bundles entries relations bytes n None padded bad =
     let e : min n n ≡ n = omega arith in

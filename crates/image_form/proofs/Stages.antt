@@ -25,7 +25,7 @@ use Rattle.image_form.specs.Parts.{bundle_count, image_length, entries_of, relat
 use Rattle.image_form.specs.Faults.{chunk, IsBundleBytes, entry_stage, spelling_stage, place_stage, bundle_stages, IsRelationRight, AreRelationsRight, IsFirstWrong, relation_stage, relation_stages, image_stages, HasImageFault, raw_stages}
 use Rattle.image_form.proofs.Spelled.{spelled_length, same_bundles, spelled_chunk}
 
--- bytes begin as an image of at most one version
+-- Bytes begin as an image of at most one version.
 pub one_version : (v w : Version) (bytes : List ℕ) → Begins v bytes → Begins w bytes → v ≡ w
 one_version One One bytes a b = refl
 one_version Two Two bytes a b = refl
@@ -36,7 +36,7 @@ one_version Two One bytes a b = absurd (let last : 50 ≡ 49 = ap (λ l. slice_i
 pub counts_hold : (v : Version) (bytes : List ℕ) → HasHead v bytes → AreCounts bytes
 counts_hold v bytes h w begins = subst (λ (u : Version). AreCountsOf u bytes) (one_version v w bytes h.begins begins) h.counts
 
--- bytes of bundles have no sixteen that are no bundle, and at most one sixteen are the first
+-- Bytes of bundles have no sixteen that are no bundle, and at most one sixteen are the first.
 spelling_sound : codec.OneFault → codec.NoFaultWhereSpelled → (bytes : List ℕ) → IsSound (spelling_stage bytes)
 spelling_sound one none bytes = record {
   one = λ a b f g.
@@ -48,7 +48,7 @@ spelling_sound one none bytes = record {
       none is.0 (chunk bytes a.0) a.1 (subst (λ (l : List ℕ). IsSpelled is.0 (chunk l a.0)) (append-nil bytes) is.1) f.fault;
 }
 
--- at most one place of the bundles is the first that isn't a good one
+-- At most one place of the bundles is the first that isn't a good one.
 place_sound : codec.OneBundle → (bytes : List ℕ) (fault : Place → ImageFault) (Good : List Bundle → Place → Type 0) → IsSound (place_stage bytes fault Good)
 place_sound one bytes fault Good = record {
   one = λ p q a b.
@@ -59,7 +59,7 @@ place_sound one bytes fault Good = record {
       a.2.bad (subst (λ (l : List Bundle). EachPlace l (Good l)) same s.2 p a.2.is);
 }
 
--- at most one relation is the first that isn't right for the bundles
+-- At most one relation is the first that isn't right for the bundles.
 relation_sound : codec.OneBundle → (spelled entries : List ℕ) (relations : List Relation) (bytes : List ℕ) → IsSound (relation_stage spelled entries relations bytes)
 relation_sound one spelled entries relations bytes = record {
   one = λ m n a b.
@@ -74,7 +74,7 @@ relation_sound one spelled entries relations bytes = record {
 bundles_sound : codec.OneBundle → codec.OneFault → codec.NoFaultWhereSpelled → (bytes : List ℕ) (later : List (Stage ImageFault)) → AreSound later → AreSound (bundle_stages bytes later)
 bundles_sound bundle one none bytes later sound = (spelling_sound one none bytes, (place_sound bundle bytes Target IsTargetInside, (place_sound bundle bytes LongRun IsWithinRun, sound)))
 
--- an image and bare bundles have at most one first fault, and none where every stage is passed
+-- An image and bare bundles have at most one first fault, and none where every stage is passed.
 pub image_sound : codec.OneBundle → codec.OneFault → codec.NoFaultWhereSpelled → (bytes : List ℕ) → AreSound (image_stages bytes)
 image_sound bundle one none bytes = (
   unless_sound (24 ≤ length bytes) Short,
@@ -99,16 +99,16 @@ raw_sound bundle one none bytes = (
   (unless_sound (length bytes % 16 ≡ 0) Length, bundles_sound bundle one none bytes [] tt),
 )
 
--- where the head is right, the first fault is one of the entries
+-- Where the head is right, the first fault is one of the entries.
 pub fault_of_entries : (v : Version) (bytes : List ℕ) (f : ImageFault) → HasHead v bytes → IsFirstFault (entry_stage (bundle_count bytes) (entries_of bytes) ∷ []) f → HasImageFault bytes f
 fault_of_entries v bytes f h (inl found) = inr (h.long, inr ((v, h.begins), inr (counts_hold v bytes h, inr (h.size, inl found))))
 fault_of_entries v bytes f h (inr none) = absurd none.1
 
--- where the entries are right too, it is one of the bundles or of the relations
+-- Where the entries are right too, it is one of the bundles or of the relations.
 pub fault_of_bundles : (v : Version) (bytes : List ℕ) (f : ImageFault) → HasHead v bytes → AreEntries (bundle_count bytes) (entries_of bytes) → IsFirstFault (bundle_stages (bundle_bytes bytes) (relation_stages bytes)) f → HasImageFault bytes f
 fault_of_bundles v bytes f h entries later = inr (h.long, inr ((v, h.begins), inr (counts_hold v bytes h, inr (h.size, inr (entries, later)))))
 
--- sixteen bytes that are no bundle are the first fault of the bundles, whatever is looked for later
+-- Sixteen bytes that are no bundle are the first fault of the bundles, whatever is looked for later.
 pub fault_of_spelling : (bytes : List ℕ) (later : List (Stage ImageFault)) (f : ImageFault) → IsFirstFault (spelling_stage bytes ∷ []) f → IsFirstFault (bundle_stages bytes later) f
 fault_of_spelling bytes later f (inl found) = inl found
 fault_of_spelling bytes later f (inr none) = absurd none.1

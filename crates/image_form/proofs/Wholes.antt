@@ -28,7 +28,7 @@ pub record ArePartsOf (v : Version) (p : Program) (bytes : List ℕ) : Type 0 wh
 abbrev pub IsPaddedImage : List ℕ → Type 0
 IsPaddedImage bytes = ArePadded (relation_count bytes) (relation_bytes bytes)
 
--- how long the parts are
+-- How long the parts are.
 pub length-entry_bytes : (v : Version) (bytes : List ℕ) → HasHead v bytes → length (entry_bytes bytes) ≡ 4 * entry_count bytes
 length-entry_bytes v bytes h = simp (length-take, length-drop) (omega (arith, h.size))
 
@@ -56,7 +56,7 @@ counts_of v p bytes parts = record {
   relations = ap length parts.relations ∙ length-relations_in (relation_count bytes) (relation_bytes bytes);
 }
 
--- where the head is right, so are the counts, and the entries where those of the bytes are
+-- Where the head is right, so are the counts, and the entries where those of the bytes are.
 image_counts : (v : Version) (p : Program) (bytes : List ℕ) → ArePartsOf v p bytes → AreImageCounts v (length p.bundles) (length p.entries) (length p.bytes) (length p.relations)
 image_counts v p bytes parts = let n = counts_of v p bytes parts in rw (n.bundles, n.entries, n.size, n.relations) parts.head.counts
 
@@ -66,21 +66,21 @@ counts_right v p bytes parts = let n = image_counts v p bytes parts in n.range
 pub entries_right : (v : Version) (p : Program) (bytes : List ℕ) → ArePartsOf v p bytes → AreEntries (bundle_count bytes) (entries_of bytes) → AreEntries (length p.bundles) p.entries
 entries_right v p bytes parts are = let n = counts_of v p bytes parts in rw (n.bundles, parts.entries) are
 
--- the numbers of the entries' bytes are the entries
+-- The numbers of the entries' bytes are the entries.
 pub entries_read : (v : Version) (bytes part : List ℕ) → HasHead v bytes → part ≡ entry_bytes bytes → numbers (length part / 4) part ≡ entries_of bytes
 entries_read v bytes part h is =
     let size : length part ≡ 4 * entry_count bytes = ap length is ∙ length-entry_bytes v bytes h in
     let count : length part / 4 ≡ entry_count bytes = omega arith in
     rw (count, is) refl
 
--- the relations of the relations' bytes are the relations
+-- The relations of the relations' bytes are the relations.
 pub relations_read : (v : Version) (bytes part : List ℕ) → HasHead v bytes → part ≡ relation_bytes bytes → relations_in (length part / 8) part ≡ relations_of bytes
 relations_read v bytes part h is =
     let size : length part ≡ 8 * relation_count bytes = ap length is ∙ length-relation_bytes v bytes h in
     let count : length part / 8 ≡ relation_count bytes = omega arith in
     rw (count, is) refl
 
--- what was read of the parts
+-- What was read of the parts.
 pub parts_read : (v : Version) (p : Program) (bytes e r b d : List ℕ) → HasHead v bytes → e ≡ entry_bytes bytes → r ≡ relation_bytes bytes → b ≡ bundle_bytes bytes → d ≡ data_of bytes → p.entries ≡ numbers (length e / 4) e → p.relations ≡ relations_in (length r / 8) r → AreSpelled p.bundles b → p.bytes ≡ d → ArePartsOf v p bytes
 parts_read v p bytes e r b d h entries relations bundles rest read also spelled last = record {
   head = h;
@@ -95,11 +95,11 @@ padded_read v p bytes r parts is padded =
     let n = counts_of v p bytes parts in
     subst (ArePadded (relation_count bytes)) is (subst (λ (k : ℕ). ArePadded k r) n.relations padded)
 
--- the numbers of the head, one after the other
+-- The numbers of the head, one after the other.
 head_numbers : (bytes : List ℕ) → numbers 4 (drop 8 bytes) ≡ bundle_count bytes ∷ entry_count bytes ∷ data_size bytes ∷ relation_count bytes ∷ []
 head_numbers bytes = simp drop-drop
 
--- the head is what is written of its numbers
+-- The head is what is written of its numbers.
 head_back : (v : Version) (bytes : List ℕ) → AreBytes bytes → HasHead v bytes → head_bytes v (bundle_count bytes) (entry_count bytes) (data_size bytes) (relation_count bytes) ≡ take 24 bytes
 head_back v bytes are h =
     let four : number_bytes (bundle_count bytes ∷ entry_count bytes ∷ data_size bytes ∷ relation_count bytes ∷ []) ≡ take 16 (drop 8 bytes) =
@@ -118,14 +118,14 @@ entries_back v bytes are h =
     number_bytes-numbers (entry_count bytes) (entry_bytes bytes) (omega arith) (bytes_take (4 * entry_count bytes) (drop 24 bytes) (bytes_drop 24 bytes are))
     ∙ take_all (4 * entry_count bytes) (entry_bytes bytes) (omega arith)
 
--- the bytes of relations are what is written of them, where the last two of each are zero
+-- The bytes of relations are what is written of them, where the last two of each are zero.
 relations_back : (v : Version) (bytes : List ℕ) → AreBytes bytes → HasHead v bytes → IsPaddedImage bytes → written_relations (relations_of bytes) ≡ relation_bytes bytes
 relations_back v bytes are h padded =
     let size = length-relation_bytes v bytes h in
     written-relations_in (relation_count bytes) (relation_bytes bytes) (omega arith) (bytes_take (8 * relation_count bytes) (after_entries bytes) (after_entries_are bytes are)) padded
     ∙ take_all (8 * relation_count bytes) (relation_bytes bytes) (omega arith)
 
--- the bytes in their parts
+-- The bytes in their parts.
 in_parts : (bytes : List ℕ) → bytes ≡ take 24 bytes ++ (entry_bytes bytes ++ (relation_bytes bytes ++ (bundle_bytes bytes ++ data_of bytes)))
 in_parts bytes =
     sym (take-append-drop 24 bytes)
@@ -137,7 +137,7 @@ in_parts bytes =
     )
     )
 
--- a program of the parts has the image
+-- A program of the parts has the image.
 pub image_of_parts : (v : Version) (p : Program) (bytes : List ℕ) → AreBytes bytes → IsProgram p → ArePartsOf v p bytes → IsPaddedImage bytes → IsImage v p bytes
 image_of_parts v p bytes are program parts padded =
     let counts = image_counts v p bytes parts in
@@ -154,7 +154,7 @@ image_of_parts v p bytes are program parts padded =
       whole = in_parts bytes ∙ (λ i. head i ++ (entries i ++ (relations i ++ (bundle_bytes bytes ++ rest i))));
     }
 
--- the counts that the head of an image says, and what follows it
+-- The counts that the head of an image says, and what follows it.
 record IsHeadedBy (v : Version) (b e d r : ℕ) (after bytes : List ℕ) : Type 0 where
   begins : Begins v bytes
   bundles : bundle_count bytes ≡ b
@@ -248,7 +248,7 @@ in_its_parts v p bundles program room spelled = record {
 in_parts_of : (v : Version) (p : Program) (bytes : List ℕ) → IsImage v p bytes → IsInParts v p bytes
 in_parts_of v p bytes s = subst (IsInParts v p) (sym s.whole) (in_its_parts v p s.bundles s.program s.room s.spelled)
 
--- the parts of an image are the program's
+-- The parts of an image are the program's.
 pub parts_of_image : (v : Version) (p : Program) (bytes : List ℕ) → IsImage v p bytes → ArePartsOf v p bytes
 parts_of_image v p bytes s = let i = in_parts_of v p bytes s in i.parts
 
@@ -261,7 +261,7 @@ image_size p bytes (v, s) =
     let n = counts_of v p bytes parts in
     omega (arith, parts.head.size, n.bundles, n.entries, n.size, n.relations)
 
--- where there are neither entries nor data nor relations, the counts are right where that of the whole bundles is
+-- Where there are neither entries nor data nor relations, the counts are right where that of the whole bundles is.
 pub raw_counts : (p : Program) (bytes : List ℕ) → length bytes % 16 ≡ 0 → AreInRange (length bytes / 16) 0 0 0 → AreSpelled p.bundles bytes → p.entries ≡ [] → p.bytes ≡ [] → p.relations ≡ [] → AreInRange (length p.bundles) (length p.entries) (length p.bytes) (length p.relations)
 raw_counts p bytes whole counts spelled no_entries no_data no_relations =
     let n = spelled_length p.bundles bytes spelled in

@@ -18,15 +18,15 @@ use Rattle.image_form.specs.declared.fault.ImageFault.TheVariants.{Short, Magic,
 use Rattle.image_form.specs.Images.{BeginsAsImage, AreSpelled}
 use Rattle.image_form.specs.Parts.{IsPadded, bundle_count, entries_of, relation_bytes, relations_of, bundle_bytes, image_length, AreCounts}
 
--- the stage whose fault comes at the first entry that doesn't rise or is no bundle from 1 on
+-- The stage whose fault comes at the first entry that doesn't rise or is no bundle from 1 on.
 abbrev pub entry_stage : ℕ → List ℕ → Stage ImageFault
 entry_stage count entries = first ℕ Entry (IsFirstMisplaced count entries) (AreEntries count entries)
 
--- the n-th sixteen bytes
+-- The n-th sixteen bytes.
 abbrev pub chunk : List ℕ → ℕ → List ℕ
 chunk bytes n = take 16 (drop (16 * n) bytes)
 
--- some bundle has these bytes
+-- Some bundle has these bytes.
 abbrev pub IsBundleBytes : List ℕ → Type 0
 IsBundleBytes bytes = (b : Bundle) × IsSpelled b bytes
 
@@ -40,13 +40,13 @@ pub record IsFirstUnspelled (bytes : List ℕ) (n : ℕ) (why : SlotFault) : Typ
 abbrev pub HasBundles : List ℕ → (List Bundle → Type 0) → Type 0
 HasBundles bytes Holds = (bundles : List Bundle) × AreSpelled bundles bytes × Holds bundles
 
--- the stage whose fault comes at the first sixteen bytes that are no bundle
+-- The stage whose fault comes at the first sixteen bytes that are no bundle.
 abbrev pub spelling_stage : List ℕ → Stage ImageFault
 spelling_stage bytes =
     first (ℕ × SlotFault) (λ key. BundleFault key.0 key.1) (λ key. IsFirstUnspelled bytes key.0 key.1)
     (HasBundles bytes (λ bundles. ⊤))
 
--- the stage whose fault comes at the first place of the bundles that isn't a good one
+-- The stage whose fault comes at the first place of the bundles that isn't a good one.
 abbrev pub place_stage : List ℕ → (Place → ImageFault) → (List Bundle → Place → Type 0) → Stage ImageFault
 place_stage bytes fault Good =
     first Place fault
@@ -71,13 +71,13 @@ abbrev pub AreRelationsRight : List Bundle → List ℕ → List Relation → Li
 AreRelationsRight bundles entries relations bytes =
     (n : ℕ) → n < length relations → IsRelationRight bundles entries relations bytes n
 
--- the first of them that may not be declared or whose last two bytes aren't zero
+-- The first of them that may not be declared or whose last two bytes aren't zero.
 pub record IsFirstWrong (bundles : List Bundle) (entries : List ℕ) (relations : List Relation) (bytes : List ℕ) (n : ℕ) : Type 0 where
   pub inside : n < length relations
   pub wrong : ¬ IsRelationRight bundles entries relations bytes n
   pub first : (k : ℕ) → k < n → IsRelationRight bundles entries relations bytes k
 
--- the stage whose fault comes at the first relation that isn't right for the bundles of these bytes
+-- The stage whose fault comes at the first relation that isn't right for the bundles of these bytes.
 abbrev pub relation_stage : List ℕ → List ℕ → List Relation → List ℕ → Stage ImageFault
 relation_stage spelled entries relations bytes =
     first ℕ RelationFault

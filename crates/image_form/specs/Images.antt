@@ -11,17 +11,17 @@ use Rattle.image_form.specs.declared.version.TheConstants.{VERSION_1_BUNDLE_LIMI
 use Rattle.image_form.specs.declared.version.Version.{Version}
 use Rattle.image_form.specs.declared.version.Version.TheVariants.{One, Two}
 
--- what an image of a version begins with
+-- What an image of a version begins with.
 abbrev pub magic : Version → List ℕ
 magic One = codes "IA64IMG1"
 magic Two = codes "IA64IMG2"
 
--- how many bundles an image of a version has at most
+-- How many bundles an image of a version has at most.
 abbrev pub bundle_limit : Version → ℕ
 bundle_limit One = VERSION_1_BUNDLE_LIMIT
 bundle_limit Two = BUNDLE_LIMIT
 
--- how many relations: an image of version 1 has none
+-- How many relations: an image of version 1 has none.
 abbrev pub relation_limit : Version → ℕ
 relation_limit One = 0
 relation_limit Two = RELATION_LIMIT
@@ -30,23 +30,23 @@ relation_limit Two = RELATION_LIMIT
 abbrev pub has_room : Version → ℕ → ℕ → Bool
 has_room v bundle_count relation_count = nat_le bundle_count (bundle_limit v) && nat_le relation_count (relation_limit v)
 
--- the bytes begin as an image of this version does
+-- The bytes begin as an image of this version does.
 abbrev pub Begins : Version → List ℕ → Type 0
 Begins v bytes = take 8 bytes ≡ magic v
 
--- the bytes begin as an image does
+-- The bytes begin as an image does.
 abbrev pub BeginsAsImage : List ℕ → Type 0
 BeginsAsImage bytes = (v : Version) × Begins v bytes
 
--- numbers, one after the other, in four bytes each, the lowest byte first
+-- Numbers, one after the other, in four bytes each, the lowest byte first.
 abbrev pub number_bytes : List ℕ → List ℕ
 number_bytes ns = flat_map (to_le_bytes w32) ns
 
--- a relation in eight bytes: its bundle in four, its two predicates, and two zeros
+-- A relation in eight bytes: its bundle in four, its two predicates, and two zeros.
 abbrev pub eight_bytes : Relation → List ℕ
 eight_bytes r = to_le_bytes w32 r.bundle ++ (r.p ∷ r.q ∷ 0 ∷ 0 ∷ [])
 
--- relations, one after the other
+-- Relations, one after the other.
 abbrev pub written_relations : List Relation → List ℕ
 written_relations rs = flat_map eight_bytes rs
 
@@ -56,7 +56,7 @@ abbrev pub head_bytes : Version → ℕ → ℕ → ℕ → ℕ → List ℕ
 head_bytes v bundles entries size relations =
     magic v ++ number_bytes (bundles ∷ entries ∷ size ∷ relations ∷ [])
 
--- bundles, one after the other, in sixteen bytes each, and nothing else
+-- Bundles, one after the other, in sixteen bytes each, and nothing else.
 abbrev pub AreSpelled : List Bundle → List ℕ → Type 0
 AreSpelled [] bytes = bytes ≡ []
 AreSpelled (b ∷ bs) bytes =
@@ -73,15 +73,15 @@ pub record IsImage (v : Version) (p : Program) (bytes : List ℕ) : Type 0 where
       ≡ head_bytes v (length p.bundles) (length p.entries) (length p.bytes) (length p.relations)
       ++ (number_bytes p.entries ++ (written_relations p.relations ++ (bundles ++ p.bytes)))
 
--- the bytes are an image of the program, of either version
+-- The bytes are an image of the program, of either version.
 abbrev pub Spells : Program → List ℕ → Type 0
 Spells p bytes = (v : Version) × IsImage v p bytes
 
--- the version in which a program is written: the first where that has room for it
+-- The version in which a program is written: the first where that has room for it.
 abbrev pub written_version : Program → Version
 written_version p = if has_room One (length p.bundles) (length p.relations) then One else Two
 
--- the bytes are the image of the program in the version in which it is written
+-- The bytes are the image of the program in the version in which it is written.
 abbrev pub Written : Program → List ℕ → Type 0
 Written p bytes = IsImage (written_version p) p bytes
 

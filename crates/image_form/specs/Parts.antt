@@ -7,7 +7,7 @@ use Rattle.image_form.specs.declared.head.Head.{Head}
 use Rattle.image_form.specs.declared.version.Version.{Version}
 use Rattle.image_form.specs.Images.{has_room, Begins}
 
--- the number in the four bytes from `at` on, the lowest first
+-- The number in the four bytes from `at` on, the lowest first.
 abbrev pub number_at : List ℕ → ℕ → ℕ
 number_at bytes at = from_le_bytes w32 (take 4 (drop at bytes))
 
@@ -16,7 +16,7 @@ abbrev pub numbers : ℕ → List ℕ → List ℕ
 numbers zero bytes = []
 numbers (suc n) bytes = number_at bytes 0 ∷ numbers n (drop 4 bytes)
 
--- the relation in the eight bytes from `at` on, whatever the last two are
+-- The relation in the eight bytes from `at` on, whatever the last two are.
 abbrev pub relation_in : List ℕ → ℕ → Relation
 relation_in bytes at =
     record { bundle = number_at bytes at; p = slice_index bytes (at + 4); q = slice_index bytes (at + 5) }
@@ -54,37 +54,37 @@ data_size bytes = number_at bytes 16
 abbrev pub relation_count : List ℕ → ℕ
 relation_count bytes = number_at bytes 20
 
--- how many bytes an image has that begins with this head
+-- How many bytes an image has that begins with this head.
 abbrev pub image_length : List ℕ → ℕ
 image_length bytes =
     24 + 4 * entry_count bytes + 8 * relation_count bytes + 16 * bundle_count bytes + data_size bytes
 
--- the bytes of the declared entries, which follow the head, and what follows them
+-- The bytes of the declared entries, which follow the head, and what follows them.
 abbrev pub entry_bytes : List ℕ → List ℕ
 entry_bytes bytes = take (4 * entry_count bytes) (drop 24 bytes)
 
 abbrev pub after_entries : List ℕ → List ℕ
 after_entries bytes = drop (4 * entry_count bytes) (drop 24 bytes)
 
--- the bytes of the relations, and what follows them
+-- The bytes of the relations, and what follows them.
 abbrev pub relation_bytes : List ℕ → List ℕ
 relation_bytes bytes = take (8 * relation_count bytes) (after_entries bytes)
 
 abbrev pub after_relations : List ℕ → List ℕ
 after_relations bytes = drop (8 * relation_count bytes) (after_entries bytes)
 
--- the bytes of the bundles, and the data
+-- The bytes of the bundles, and the data.
 abbrev pub bundle_bytes : List ℕ → List ℕ
 bundle_bytes bytes = take (16 * bundle_count bytes) (after_relations bytes)
 
 abbrev pub data_of : List ℕ → List ℕ
 data_of bytes = drop (16 * bundle_count bytes) (after_relations bytes)
 
--- the declared entries
+-- The declared entries.
 abbrev pub entries_of : List ℕ → List ℕ
 entries_of bytes = numbers (entry_count bytes) (entry_bytes bytes)
 
--- the declared relations
+-- The declared relations.
 abbrev pub relations_of : List ℕ → List Relation
 relations_of bytes = relations_in (relation_count bytes) (relation_bytes bytes)
 
@@ -94,7 +94,7 @@ pub record AreImageCounts (v : Version) (bundle_count entry_count byte_count rel
   pub range : AreInRange bundle_count entry_count byte_count relation_count
   pub room : IsTrue (has_room v bundle_count relation_count)
 
--- the numbers of the head are in range for an image of this version
+-- The numbers of the head are in range for an image of this version.
 abbrev pub AreCountsOf : Version → List ℕ → Type 0
 AreCountsOf v bytes = AreImageCounts v (bundle_count bytes) (entry_count bytes) (data_size bytes) (relation_count bytes)
 

@@ -16,7 +16,7 @@ use Rattle.formats_m.specs.Listed.{rows as rows_m, IsListedM}
 use Rattle.formats_m.specs.RowIndexes.{row_index_of as row_index_m}
 use Rattle.formats_m.proofs.Words.{row_m}
 
--- an instruction with a row has the index of one
+-- An instruction with a row has the index of one.
 some_row_index : (rows : List Row) (p : Option ℕ) (insn : Insn) → AsRow rows p insn → IsSome p
 some_row_index rows None insn h = absurd h
 some_row_index rows (Some n) insn h = refl
@@ -30,7 +30,7 @@ some_m insn h = some_row_index rows_m (row_index_m (opcode_of insn.op)) insn (ro
 some_i : (insn : Insn) → IsListedI insn → IsSome (row_index_i (opcode_of insn.op))
 some_i insn h = some_row_index rows_i (row_index_i (opcode_of insn.op)) insn (row_i insn h)
 
--- an opcode of the A instructions is none of M and none of I
+-- An opcode of the A instructions is none of M and none of I.
 a_or_m : (c : Opcode) → IsSome (row_index_a c) → IsSome (row_index_m c) → ⊥
 a_or_m c common own = grind arith
 

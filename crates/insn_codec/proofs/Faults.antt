@@ -28,17 +28,17 @@ pub second_unlisted : (u v w : ExecutionUnit) (words : List ℕ) (f : SlotFault)
 second_unlisted u L w words f short first e fails = absurd (short refl)
 second_unlisted u v w words f short first e fails = inr (first, inl (tt, e, fails))
 
--- slot 2 is the first without an instruction
+-- slot 2 is the first without an instruction.
 pub third_unlisted : (u v w : ExecutionUnit) (words : List ℕ) (f : SlotFault) → v ≢ L → HasInsn u 0 words → HasInsn v 1 words → f ≡ Unlisted 2 → ¬ HasInsn w 2 words → IsFirstFault (slot_stages (u ∷ v ∷ w ∷ []) words) f
 third_unlisted u L w words f short first second e fails = absurd (short refl)
 third_unlisted u v w words f short first second e fails = inr (first, inr (second, inl (tt, e, fails)))
 
--- a template has a fault of its slots
+-- A template has a fault of its slots.
 pub slot_fault : (bytes : List ℕ) (raw : RawBundle) (f : SlotFault) (units : List ExecutionUnit) → IsRawOf bytes raw → IsTemplate raw.template → units ≡ units_of raw.template → IsFirstFault (slot_stages units raw.slots) f → HasSlotFault bytes f
 slot_fault bytes raw f units parts is same later =
     (raw, parts, inr (is, subst (λ (l : List ExecutionUnit). IsFirstFault (slot_stages l raw.slots) f) same later))
 
--- where instructions have the words of the slots, each stage is passed, and the other way round
+-- Where instructions have the words of the slots, each stage is passed, and the other way round.
 slots_passed : (units : List ExecutionUnit) (slots : Slots) (words : List ℕ) → StandIn units slots words → ArePassed (slot_stages units words)
 slots_passed (u ∷ L ∷ w ∷ []) (Three a b c) words s = absurd s.1.code
 slots_passed (u ∷ L ∷ w ∷ []) (Long first long) words s = ((first, s.0), ((long, s.1), tt))
@@ -51,7 +51,7 @@ slots_stand (u ∷ L ∷ w ∷ []) words three p = (Long p.0.0 p.1.0.0, (p.0.1, 
 slots_stand (u ∷ v ∷ w ∷ []) words three p = (Three p.0.0 p.1.0.0 p.1.1.0.0, (p.0.1, p.1.0.1, p.1.1.0.1))
 slots_stand units words three p = absurd (omega arith)
 
--- a stage of one fault finds it once, and not where it is passed
+-- A stage of one fault finds it once, and not where it is passed.
 slots_sound : (units : List ExecutionUnit) (words : List ℕ) → stages.AreSound (slot_stages units words)
 slots_sound (u ∷ L ∷ w ∷ []) words = (
   stages.unless_sound (HasInsn u 0 words) (Unlisted 0),
@@ -66,7 +66,7 @@ slots_sound units words = tt
 bundle_sound : (raw : RawBundle) → stages.AreSound (bundle_stages raw)
 bundle_sound raw = (stages.unless_sound (IsTemplate raw.template) ReservedTemplate, slots_sound (units_of raw.template) raw.slots)
 
--- no stage of a slot is without its fault unless it is passed
+-- No stage of a slot is without its fault unless it is passed.
 slots_not_open : (units : List ExecutionUnit) (words : List ℕ) → stages.AreNotOpen (slot_stages units words)
 slots_not_open (u ∷ L ∷ w ∷ []) words = (
   stages.unless_not_open (HasInsn u 0 words) (Unlisted 0),
@@ -78,19 +78,19 @@ slots_not_open (u ∷ v ∷ w ∷ []) words = (
 )
 slots_not_open units words = tt
 
--- bytes have one first fault
+-- Bytes have one first fault.
 pub one_fault : OneRaw → OneFault
 one_fault raws bytes f g a b =
     let same = same_raw raws bytes a.0 b.0 a.1 b.1 in
     stages.one_fault (bundle_stages b.0) (bundle_sound b.0) f g (subst (λ (r : RawBundle). IsFirstFault (bundle_stages r) f) same a.2) b.2
 
--- the bytes of a bundle have no fault
+-- The bytes of a bundle have no fault.
 pub no_fault_where_spelled : OneRaw → NoFaultWhereSpelled
 no_fault_where_spelled raws b bytes f s a =
     let p = parts_of b bytes a.0 s (same_raw raws bytes s.raw a.0 s.parts a.1) in
     stages.no_fault (bundle_stages a.0) (bundle_sound a.0) (p.template, slots_passed (units_of a.0.template) b.slots a.0.slots p.slots) f a.2
 
--- bytes that are those of no bundle have a fault
+-- Bytes that are those of no bundle have a fault.
 pub fault_where_none_spelled : SomeRaw → FaultWhereNoneSpelled
 fault_where_none_spelled some bytes are none faultless =
     let raw = some bytes are in

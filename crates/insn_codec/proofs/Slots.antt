@@ -14,18 +14,18 @@ use Rattle.ia_program.specs.Bundles.{Bundle, FitUnits}
 use Rattle.insn_codec.specs.Slots.{UnitCode}
 use Rattle.insn_codec.specs.Spelling.{StandIn, IsSpelled}
 
--- in an L slot no instruction has a word of its own
+-- In an L slot no instruction has a word of its own.
 pub not_of_l : (v : ExecutionUnit) (i : Insn) (w : ℕ) → UnitCode v i w → v ≢ L
 not_of_l L i w code = absurd code
 not_of_l v i w code = λ e. cc
 
--- instructions that have the words of the slots fit them
+-- Instructions that have the words of the slots fit them.
 pub fit_units : (units : List ExecutionUnit) (slots : Slots) (words : List ℕ) → StandIn units slots words → FitUnits units slots
 fit_units (u ∷ v ∷ w ∷ []) (Three a b c) words s = (s.0.fits, s.1.fits, s.2.fits, not_of_l v b (slice_index words 1) s.1.code)
 fit_units (u ∷ v ∷ w ∷ []) (Long first long) words s = (s.0.fits, subst (λ (x : ExecutionUnit). Fits long x 1) (sym s.2) s.1.fits, s.2)
 fit_units units slots words s = absurd s
 
--- the template, where there is one, has three units
+-- The template, where there is one, has three units.
 abbrev HasThree : Option Shape → Type 0
 HasThree shape = IsSome shape → length (unwrap_or shape no_shape).units ≡ 3
 
@@ -42,7 +42,7 @@ three_units pair = search (one_more, none_has_three) depth 16
 pub template_units : (code : ℕ) → IsTemplate code → length (units_of code) ≡ 3
 template_units code = three_units (code / 2)
 
--- three items, one by one
+-- Three items, one by one.
 pub three_items : {A : Type 0} (d : A) (xs : List A) → length xs ≡ 3 → (slice_index_or xs 0 d ∷ slice_index_or xs 1 d ∷ slice_index_or xs 2 d ∷ []) ≡ xs
 three_items d [] n = absurd (omega arith)
 three_items d (x ∷ []) n = absurd (omega arith)
@@ -50,7 +50,7 @@ three_items d (x ∷ y ∷ []) n = absurd (omega arith)
 three_items d (x ∷ y ∷ z ∷ []) n = refl
 three_items d (w ∷ x ∷ y ∷ z ∷ xs) n = absurd (omega arith)
 
--- what stands in the parts of a bundle's bytes
+-- What stands in the parts of a bundle's bytes.
 pub record StandsInParts (b : Bundle) (raw : RawBundle) : Type 0 where
   pub code : raw.template ≡ b.template
   pub template : IsTemplate raw.template
@@ -67,7 +67,7 @@ parts_of b bytes raw s e =
 pub same_bundle : (b : Bundle) (template : ℕ) (slots : Slots) → template ≡ b.template → slots ≡ b.slots → (let x : Bundle = record { template = template; slots = slots } in x) ≡ b
 same_bundle b template slots t s = λ i. record { template = t i; slots = s i }
 
--- a template and three words, of a template's width and of a slot's
+-- A template and three words, of a template's width and of a slot's.
 abbrev pub parts : ℕ → List ℕ → RawBundle
 parts template words = record { template = template; slots = words }
 

@@ -12,11 +12,11 @@ use Rattle.insn_codec.specs.Spelling.{StandIn, IsRawOf}
 use Rattle.insn_codec.specs.Laws.{OneInstructionOfUnit, OneWordOfUnit, OneBundle, OneSpelling}
 use Rattle.insn_codec.proofs.Slots.{not_of_l, three_items, parts_of, same_bundle, same_number}
 
--- bytes have one template and one choice of words
+-- Bytes have one template and one choice of words.
 pub same_raw : OneRaw → (bytes : List ℕ) (x y : RawBundle) → IsRawOf bytes x → IsRawOf bytes y → x ≡ y
 same_raw raws bytes x y first second = raws x y first.widths second.widths (first.number ∙ sym second.number)
 
--- the words of slots are those of one choice of instructions
+-- The words of slots are those of one choice of instructions.
 same_slots : OneInstructionOfUnit → OneLongInstruction → (units : List ExecutionUnit) (s t : Slots) (words : List ℕ) → StandIn units s words → StandIn units t words → s ≡ t
 same_slots one long (u ∷ v ∷ w ∷ []) (Three a b c) (Three x y z) words p q =
     let e = one u (slice_index words 0) a x p.0.code q.0.code in
@@ -31,19 +31,19 @@ same_slots one long (u ∷ v ∷ w ∷ []) (Long a b) (Long x y) words p q =
     let f = long (slice_index words 1) (slice_index words 2) b y p.1.code q.1.code in cc
 same_slots one long units s t words p q = absurd p
 
--- bytes are those of one bundle
+-- Bytes are those of one bundle.
 pub one_bundle : OneRaw → OneInstructionOfUnit → OneLongInstruction → OneBundle
 one_bundle raws one long bytes b c s t =
     let p = parts_of b bytes t.raw s (same_raw raws bytes s.raw t.raw s.parts t.parts) in
     let q = parts_of c bytes t.raw t refl in
     same_bundle c b.template b.slots (sym p.code ∙ q.code) (same_slots one long (units_of t.raw.template) b.slots c.slots t.raw.slots p.slots q.slots)
 
--- three words that agree one by one are the same
+-- Three words that agree one by one are the same.
 same_three : (x y : List ℕ) → length x ≡ 3 → length y ≡ 3 → slice_index x 0 ≡ slice_index y 0 → slice_index x 1 ≡ slice_index y 1 → slice_index x 2 ≡ slice_index y 2 → x ≡ y
 same_three x y m n first second third =
     sym (three_items 0 x m) ∙ (λ i. first i ∷ second i ∷ third i ∷ []) ∙ three_items 0 y n
 
--- instructions have one choice of words
+-- Instructions have one choice of words.
 same_words : OneWordOfUnit → OneLongWord → (units : List ExecutionUnit) (s : Slots) (x y : List ℕ) → length x ≡ 3 → length y ≡ 3 → StandIn units s x → StandIn units s y → x ≡ y
 same_words one long (u ∷ v ∷ w ∷ []) (Three a b c) x y m n p q =
     same_three x y m n (one u a _ _ p.0.code q.0.code) (one v b _ _ p.1.code q.1.code) (one w c _ _ p.2.code q.2.code)
@@ -52,7 +52,7 @@ same_words one long (u ∷ v ∷ w ∷ []) (Long a b) x y m n p q =
     same_three x y m n (one u a _ _ p.0.code q.0.code) e.0 e.1
 same_words one long units s x y m n p q = absurd p
 
--- a bundle has one spelling
+-- A bundle has one spelling.
 pub one_spelling : OneBytes → OneWordOfUnit → OneLongWord → OneSpelling
 one_spelling bytes one long b x y s t =
     let words = same_words one long (units_of b.template) b.slots s.raw.slots t.raw.slots s.parts.widths.count t.parts.widths.count s.slots t.slots in

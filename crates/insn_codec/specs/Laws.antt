@@ -13,36 +13,36 @@ use Rattle.insn_codec.specs.SlotFaults.{HasSlotFault}
 -- Of L and X slots the first two say nothing: a long instruction has a word in each of them, and `OneLongInstruction` and
 -- `OneLongWord` say of both words what these say of one.
 
--- a word is that of at most one instruction of a unit
+-- A word is that of at most one instruction of a unit.
 abbrev pub OneInstructionOfUnit : Type 0
 OneInstructionOfUnit = (unit : ExecutionUnit) → OneInstruction (UnitCode unit)
 
--- an instruction has at most one word of a unit
+-- An instruction has at most one word of a unit.
 abbrev pub OneWordOfUnit : Type 0
 OneWordOfUnit = (unit : ExecutionUnit) → OneWord (UnitCode unit)
 
--- bytes are those of at most one bundle
+-- Bytes are those of at most one bundle.
 abbrev pub OneBundle : Type 0
 OneBundle = (bytes : List ℕ) (b c : Bundle) → IsSpelled b bytes → IsSpelled c bytes → b ≡ c
 
--- a bundle has at most one spelling
+-- A bundle has at most one spelling.
 abbrev pub OneSpelling : Type 0
 OneSpelling = (b : Bundle) (x y : List ℕ) → IsSpelled b x → IsSpelled b y → x ≡ y
 
--- bytes have at most one first fault
+-- Bytes have at most one first fault.
 abbrev pub OneFault : Type 0
 OneFault = (bytes : List ℕ) (f g : SlotFault) → HasSlotFault bytes f → HasSlotFault bytes g → f ≡ g
 
--- the bytes of a bundle have no fault
+-- The bytes of a bundle have no fault.
 abbrev pub NoFaultWhereSpelled : Type 0
 NoFaultWhereSpelled = (b : Bundle) (bytes : List ℕ) (f : SlotFault) → IsSpelled b bytes → HasSlotFault bytes f → ⊥
 
--- sixteen bytes that are those of no bundle are not without a fault
+-- Sixteen bytes that are those of no bundle are not without a fault.
 abbrev pub FaultWhereNoneSpelled : Type 0
 FaultWhereNoneSpelled =
     (bytes : List ℕ) → AreBytes bytes → ((b : Bundle) → IsSpelled b bytes → ⊥)
     → ((f : SlotFault) → HasSlotFault bytes f → ⊥) → ⊥
 
--- the bytes are those of a bundle, or have a fault
+-- The bytes are those of a bundle, or have a fault.
 abbrev pub BundleOrFault : List ℕ → Type 0
 BundleOrFault bytes = ((b : Bundle) × IsSpelled b bytes) ⊎ ((f : SlotFault) × HasSlotFault bytes f)

@@ -11,11 +11,11 @@ use Rattle.insn_codec.specs.declared.bundle.SlotFault.TheVariants.{ReservedTempl
 use Rattle.insn_codec.specs.Slots.{IsInSlot, IsInSlots}
 use Rattle.insn_codec.specs.Spelling.{IsRawOf}
 
--- an instruction that fits the slot has its word
+-- An instruction that fits the slot has its word.
 abbrev pub HasInsn : ExecutionUnit → ℕ → List ℕ → Type 0
 HasInsn unit slot words = (i : Insn) × IsInSlot unit slot i (slice_index words slot)
 
--- a long instruction has the words of slots 1 and 2
+-- A long instruction has the words of slots 1 and 2.
 abbrev pub HasLongInsn : List ℕ → Type 0
 HasLongInsn words = (i : Insn) × IsInSlots i (slice_index words 1) (slice_index words 2)
 

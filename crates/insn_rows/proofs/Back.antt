@@ -19,7 +19,7 @@ use Rattle.insn_rows.specs.WellMade.{is_of_kind, are_of_kind}
 use Rattle.insn_rows.specs.Arms.{opcode_of, operands_of, values_of}
 use Rattle.insn_rows.specs.ArmsBack.{insn_of, op_of, gr_of, pr_of, br_of, flag_of, small_of, wide_of, mask_of, signed_of, short_of, displacement_of}
 
--- an arm and the arm back
+-- An arm and the arm back.
 pub arms : (qp : ℕ) (x : Op) → insn_of (opcode_of x) (at (operands_of qp x)) ≡ record { qp = qp; op = x }
 arms qp (op.Load size kind hint r1 r3 updates.None) = refl
 arms qp (op.Load size kind hint r1 r3 u) = refl
@@ -34,7 +34,7 @@ opcode_back (o.Store kind kinds.None) x = refl
 opcode_back (o.Store kind u) x = refl
 opcode_back k x = refl
 
--- a value of the kind of another one
+-- A value of the kind of another one.
 abbrev pub of_kind : Value → Value → Value
 of_kind v.Absent x = v.Absent
 of_kind (v.Gr n) x = v.Gr (gr_of x)
@@ -52,7 +52,7 @@ abbrev pub of_kinds : List Value → List Value → List Value
 of_kinds (s ∷ ss) (x ∷ xs) = of_kind s x ∷ of_kinds ss xs
 of_kinds ss xs = []
 
--- an opcode's values are of the same kinds, whatever they are
+-- An opcode's values are of the same kinds, whatever they are.
 shaped : (k : Opcode) (a b d e f g h : Value) → values_of (insn_of k (at (a ∷ b ∷ d ∷ e ∷ f ∷ g ∷ h ∷ []))) ≡ of_kinds (values_of (insn_of k (λ n. v.Absent))) (a ∷ b ∷ d ∷ e ∷ f ∷ g ∷ h ∷ [])
 shaped (o.Load kind kinds.None) a b d e f g h = refl
 shaped (o.Load kind u) a b d e f g h = refl
@@ -60,7 +60,7 @@ shaped (o.Store kind kinds.None) a b d e f g h = refl
 shaped (o.Store kind u) a b d e f g h = refl
 shaped k a b d e f g h = refl
 
--- an operand's value is of the kind of its coding
+-- An operand's value is of the kind of its coding.
 kept : (coding : Coding) (w : ℕ) (s x : Value) → is_of_kind coding s ≡ true → Takes coding w x → of_kind s x ≡ x
 kept c.Absent w v.Absent v.Absent h t = refl
 kept c.NoPredicate w (v.Pr m) (v.Pr n) h t = refl

@@ -50,7 +50,7 @@ increment_back : (z : ℤ) → IsIncrement z → increment_of_code (code c.Incre
 increment_back (pos n) h = step_back n h
 increment_back (negsuc n) h = negative_back (suc n) h
 
--- a code has its bits
+-- A code has its bits.
 pub code_fits : (coding : Coding) (w : ℕ) (x : Value) → Takes coding w x → suits coding w ≡ true → code coding w x < 2 ^ w
 code_fits c.Absent w v.Absent t s = pow_pos w
 code_fits c.NoPredicate w (v.Pr n) t s = let p = pow_pos w in omega arith

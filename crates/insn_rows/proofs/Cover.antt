@@ -15,7 +15,7 @@ use Rattle.insn_rows.specs.WellMade.{other_bits, are_left}
 use Rattle.insn_rows.proofs.Spread.{field_of}
 use Rattle.insn_rows.proofs.Gathering.{gathered_below}
 
--- the fields of a number
+-- The fields of a number.
 abbrev pub own : List BitField → ℕ → List Part
 own [] w = []
 own (f ∷ fs) w = field f.low f.width (bits f.low f.width w) ∷ own fs w
@@ -51,7 +51,7 @@ cover (f ∷ fs) w h left =
     let step = less w (other_bits fs) f.low f.width (eqb-true _ _ (both-left _ _ left)) in
     omega (arith, before, step)
 
--- fields with the values that a number has in them are its own
+-- Fields with the values that a number has in them are its own.
 pub own_reads : (ps : List Part) (w : ℕ) → Reads w ps → own (map field_of ps) w ≡ ps
 own_reads [] w r = refl
 own_reads (p ∷ ps) w r = λ i. field p.low p.width (r.0 i) ∷ own_reads ps w r.1 i

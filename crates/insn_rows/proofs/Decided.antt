@@ -3,7 +3,7 @@ use Rattle.std.proofs.Common.{◌≡◌, ◌≢◌, ◌⊎◌, inl, inr, refl, �
 use Rattle.std.proofs.Math.Decide.{ℕ_discrete}
 use Rattle.std.specs.List.{AllByRecursion}
 
--- a fact that follows from a decided one, and the other way round
+-- A fact that follows from a decided one, and the other way round.
 pub alike : {P Q : Type 0} → Dec P → (P → Q) → (Q → P) → Dec Q
 alike (yes p) to from = yes (to p)
 alike (no never) to from = no (λ q. never (from q))
@@ -17,7 +17,7 @@ either (yes p) q = yes (inl p)
 either (no never) (yes q) = yes (inr q)
 either (no never) (no nor) = no (λ h. elim h [ inl p ↦ never p | inr q ↦ nor q ])
 
--- two facts together, three, four and five
+-- Two facts together, three, four and five.
 pub both : {P Q : Type 0} → Dec P → Dec Q → Dec (P × Q)
 both (yes p) (yes q) = yes (p, q)
 both (yes p) (no never) = no (λ h. never h.1)
@@ -32,7 +32,7 @@ four p q = alike (both p q) (λ h. (h.0, h.1.0, h.1.1, h.1.2)) (λ h. (h.0, (h.1
 pub differ : (m n : ℕ) → Dec (m ≢ n)
 differ m n = opposite (ℕ_discrete m n)
 
--- of what may be there
+-- Of what may be there.
 pub is_none : {T : Type 0} (o : Option T) → Dec (o ≡ None)
 is_none None = yes refl
 is_none (Some x) = no (λ e. cc)
@@ -49,7 +49,7 @@ pub if_some : {T : Type 0} {P : T → Type 0} (o : Option T) → ((x : T) → De
 if_some None each = yes tt
 if_some (Some x) each = each x
 
--- of the elements of a list
+-- Of the elements of a list.
 pub all : {T : Type 0} {P : T → Type 0} (xs : List T) → ((x : T) → Dec (P x)) → Dec (AllByRecursion P xs)
 all [] each = yes tt
 all (x ∷ xs) each = both (each x) (all xs each)

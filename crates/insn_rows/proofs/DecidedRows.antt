@@ -82,7 +82,7 @@ agrees (ch.Frame i j k) xs = frame (at xs i) (at xs j) (at xs k)
 has_word : (r : Row) (xs : List Value) → Dec (HasWord r xs)
 has_word r xs = alike (both (all_take (operands r) xs) (agrees r.format.check xs)) (λ h. record { takes = h.0; agrees = h.1 }) (λ h. (h.takes, h.agrees))
 
--- the row at the index of its opcode has a word for an instruction
+-- The row at the index of its opcode has a word for an instruction.
 pub as_row_decided : (rows : List Row) (p : Option ℕ) (i : Insn) → Dec (AsRow rows p i)
 as_row_decided rows None i = no (λ h. h)
 as_row_decided rows (Some n) i = has_word (get_or rows n no_row) (values_of i)

@@ -26,7 +26,7 @@ gathered_mod (f ∷ fs) n w r =
 pub gathered_back : (fs : List BitField) (n w : ℕ) → n < 2 ^ width_of fs → Reads w (scattered fs n) → gathered fs w ≡ n
 gathered_back fs n w fit r = gathered_mod fs n w r ∙ mod-eq_of_lt fit
 
--- a code has its bits
+-- A code has its bits.
 pub gathered_below : (fs : List BitField) (w : ℕ) → gathered fs w < 2 ^ width_of fs
 gathered_below [] w = omega arith
 gathered_below (f ∷ fs) w =

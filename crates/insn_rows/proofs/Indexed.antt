@@ -14,7 +14,7 @@ use Rattle.insn_rows.specs.Indexes.{is_among, are_indexed, are_inside, is_index}
 use Rattle.insn_rows.proofs.RowWords.{all_get}
 use Rattle.insn_rows.proofs.RowBack.{no_row, table_made, row_matches, code_below}
 
--- a row's major opcode is that of its words
+-- A row's major opcode is that of its words.
 major : (r : Row) (w : ℕ) → w < 2 ^ 41 → (r.format.mask / 2 ^ 37 == 2 ^ 27 - 1) ≡ true → matches r w ≡ true → r.fixed / 2 ^ 37 ≡ w / 2 ^ 37
 major r w h full m =
     let a : bit_and w r.format.mask / 2 ^ 37 ≡ r.fixed / 2 ^ 37 = ap (λ n. n / 2 ^ 37) (eqb-true _ _ m) in
@@ -23,7 +23,7 @@ major r w h full m =
     let d : bit_and (w / 2 ^ 37) (2 ^ 27 - 1) ≡ w / 2 ^ 37 = and_mask (w / 2 ^ 37) 27 ∙ mod-eq_of_lt (omega (arith, h)) in
     sym a ∙ b ∙ c ∙ d
 
--- what the index says of a row
+-- What the index says of a row.
 record Indexed (index : List (List ℕ)) (n : ℕ) (r : Row) : Type 0 where
   full : (r.format.mask / 2 ^ 37 == 2 ^ 27 - 1) ≡ true
   among : is_among n (get_or index (r.fixed / 2 ^ 37) []) ≡ true
@@ -37,7 +37,7 @@ indexed_at index (r ∷ rs) k (suc n) d h l =
     let P : ℕ → Type 0 = λ m. Indexed index m (get_or rs n d) in
     subst P (let e : n + suc k ≡ suc n + k = omega arith in e) (indexed_at index rs (suc k) n d (both-right _ _ h) (omega (arith, l)))
 
--- where an index stands among others
+-- Where an index stands among others.
 first_or : (n m : ℕ) (b : Bool) (ms : List ℕ) → (m == n) ≡ b → (b || is_among n ms) ≡ true → (is_among n ms ≡ true → (k : ℕ) × (k < length ms) × (get_or ms k 0 ≡ n)) → (k : ℕ) × (k < length (m ∷ ms)) × (get_or (m ∷ ms) k 0 ≡ n)
 first_or n m true ms e h later = (0, omega arith, eqb-true m n e)
 first_or n m false ms e h later = let k = later h in (suc k.0, omega (arith, k.1), k.2)

@@ -30,7 +30,7 @@ set n low w h =
     let fits : w + low ≤ 64 = omega arith in
     ap (λ k. k * 2 ^ low % 18446744073709551616) (low_bits n w (omega arith)) ∙ shl_whole (n % 2 ^ w) w low 64 (mod_below n (2 ^ w) (pow_pos w)) fits
 
--- a field lies in its word
+-- A field lies in its word.
 pub field_below : (n low w : ℕ) → low + w ≤ 41 → n % 2 ^ w * 2 ^ low < 2 ^ 41
 field_below n low w h =
     let a : n % 2 ^ w * 2 ^ low + 0 < 2 ^ low * 2 ^ w = mul-add-lt (n % 2 ^ w) (2 ^ low) 0 (2 ^ w) (mod_below n (2 ^ w) (pow_pos w)) (pow_pos low) in
@@ -41,7 +41,7 @@ field_below n low w h =
 pub set_below : (n low w : ℕ) → low + w ≤ 41 → bit_and n (1 * 2 ^ w % 18446744073709551616 - 1) * 2 ^ low % 18446744073709551616 < 2 ^ 41
 set_below n low w h = rw (set n low w h) (field_below n low w h)
 
--- one number above another
+-- One number above another.
 pub joined : (h l w hw : ℕ) → hw + w ≤ 41 → h < 2 ^ hw → h * 2 ^ w % 18446744073709551616 + l ≡ h * 2 ^ w + l
 joined h l w hw room fit = let fits : hw + w ≤ 64 = omega arith in ap (λ k. k + l) (shl_whole h hw w 64 fit fits)
 
@@ -67,7 +67,7 @@ put_below fs n h =
     let r = spread-below 0 (scattered fs n) (lit< tt) (scattered_fit fs n) s z in
     omega (arith, r)
 
--- what the code makes of one to four fields
+-- What the code makes of one to four fields.
 pub put_one : (a : BitField) (n : ℕ) → n % 2 ^ a.width * 2 ^ a.low ≡ word_of (scattered (a ∷ []) n)
 put_one a n = let one : n / 1 ≡ n = omega arith in rw (add-zero, one) refl
 
@@ -94,7 +94,7 @@ pub get_four : (a b c d : BitField) (w : ℕ) → bits a.low a.width w * 2 ^ (b.
     ≡ gathered (a ∷ b ∷ c ∷ d ∷ []) w
 get_four a b c d w = rw (add-zero) (omega arith)
 
--- limits of two to four widths
+-- Limits of two to four widths.
 pub below_two : (k a b : ℕ) → k < 2 ^ (a + b) → k < 2 ^ (a + (b + 0))
 below_two k a b h = rw (add-zero) h
 

@@ -26,7 +26,7 @@ power_is n h = one_shl n 64 (omega arith)
 pub power_most : (n : ℕ) → n ≤ 61 → 1 * 2 ^ n % 18446744073709551616 ≤ 2 ^ 61
 power_most n h = rw (power_is n h) (pow-le-pow_right (lit< tt) h)
 
--- fewer bits
+-- Fewer bits.
 pub fewer : (n w k : ℕ) → w ≤ k → n < 2 ^ w → n < 2 ^ k
 fewer n w k h fit = let e : 2 ^ w ≤ 2 ^ k = pow-le-pow_right (lit< tt) h in omega arith
 
@@ -60,7 +60,7 @@ small_below n w h fit = let a = fewer n w 8 (leb-true _ _ h) fit in omega arith
 pub mask_below : (n w : ℕ) → leb w 31 ≡ true → n < 2 ^ w → 2 * n < 4294967296
 mask_below n w h fit = let a = fewer n w 31 (leb-true _ _ h) fit in omega arith
 
--- the limit of a width that is known
+-- The limit of a width that is known.
 pub known_below : (n w k : ℕ) → eqb w k ≡ true → n < 2 ^ w → n < 2 ^ k
 known_below n w k e fit = let P : ℕ → Type 0 = λ m. n < 2 ^ m in subst P (eqb-true w k e) fit
 
@@ -91,7 +91,7 @@ twos-signed w n s h = elim (ltb n (2 ^ (w - 1))) as (λ b. twos w (cond b (pos n
   | false ↦ omega arith
 ]
 
--- of which the low 16 bits are zeros
+-- Of which the low 16 bits are zeros.
 pub raised_zeros : (w n : ℕ) → n < 2 ^ w → twos (w + 16) (signed_of (w + 16) (n * 2 ^ 16)) % 2 ^ 16 ≡ 0
 raised_zeros w n h =
     let a : twos (w + 16) (signed_of (w + 16) (n * 2 ^ 16)) ≡ n * 2 ^ 16 = twos-signed (w + 16) (n * 2 ^ 16) (omega arith) (shifted_below n w h) in

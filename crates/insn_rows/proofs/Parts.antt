@@ -16,11 +16,11 @@ pub word_append : (xs ys : List Part) → word_of (xs ++ ys) ≡ word_of xs + wo
 word_append [] ys = omega arith
 word_append (x ∷ xs) ys = let r = word_append xs ys in omega arith
 
--- the fields of one operand
+-- The fields of one operand.
 abbrev pub part : Operand → Value → List Part
 part o x = scattered (list_of o.bits) (code o.coding (operand_width o) x)
 
--- what seven operands come to
+-- What seven operands come to.
 pub seven_parts : (o1 o2 o3 o4 o5 o6 o7 : Operand) (x1 x2 x3 x4 x5 x6 x7 : Value) → word_of (part o1 x1) + (word_of (part o2 x2) + (word_of (part o3 x3) + (word_of (part o4 x4) + (word_of (part o5 x5) + (word_of (part o6 x6) + word_of (part o7 x7))))))
     ≡ word_of (parts (o1 ∷ o2 ∷ o3 ∷ o4 ∷ o5 ∷ o6 ∷ o7 ∷ []) (x1 ∷ x2 ∷ x3 ∷ x4 ∷ x5 ∷ x6 ∷ x7 ∷ []))
 seven_parts o1 o2 o3 o4 o5 o6 o7 x1 x2 x3 x4 x5 x6 x7 =
@@ -35,7 +35,7 @@ parts_fit (o ∷ os) (x ∷ xs) = all_fit_append (part o x) (parts os xs) (scatt
 parts_fit [] xs = tt
 parts_fit (o ∷ os) [] = tt
 
--- values that the operands may have are as many as they
+-- Values that the operands may have are as many as they.
 pub parts_fields : (os : List Operand) (xs : List Value) → AllTake os xs → map field_of (parts os xs) ≡ fields os
 parts_fields [] [] t = refl
 parts_fields (o ∷ os) (x ∷ xs) t =
@@ -48,7 +48,7 @@ pub reads_split : (w : ℕ) (xs ys : List Part) → Reads w (xs ++ ys) → Reads
 reads_split w [] ys r = (tt, r)
 reads_split w (x ∷ xs) ys r = let s = reads_split w xs ys r.1 in ((r.0, s.0), s.1)
 
--- seven values that are set one after the other
+-- Seven values that are set one after the other.
 pub seven_values : (xs : List Value) (x1 x2 x3 x4 x5 x6 x7 : Value) → length xs ≡ 7 → slice_set (slice_set (slice_set (slice_set (slice_set (slice_set (slice_set xs 0 x1) 1 x2) 2 x3) 3 x4) 4 x5) 5 x6) 6 x7 ≡ x1 ∷ x2 ∷ x3 ∷ x4 ∷ x5 ∷ x6 ∷ x7 ∷ []
 seven_values (a ∷ b ∷ c ∷ d ∷ e ∷ f ∷ g ∷ []) x1 x2 x3 x4 x5 x6 x7 h = refl
 seven_values xs x1 x2 x3 x4 x5 x6 x7 h = absurd (omega (arith, h))

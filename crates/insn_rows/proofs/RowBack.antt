@@ -54,7 +54,7 @@ no_values r i w h none code = none (read_has r i w h code)
 
 -- Of a table.
 
--- a row that stands for none, outside a table
+-- A row that stands for none, outside a table.
 abbrev absent : Operand
 absent = record { coding = c.Absent; bits = b.None }
 
@@ -85,7 +85,7 @@ row_found rows i w n d h code l m =
     let P : ℕ → Type 0 = λ k. IsOfRow (get_or rows k d) i w in
     subst P same (code.row d)
 
--- what stands in a list stands there whatever is outside
+-- What stands in a list stands there whatever is outside.
 pub same_default : {A : Type 0} (xs : List A) (n : ℕ) (d e : A) → n < length xs → get_or xs n d ≡ get_or xs n e
 same_default [] n d e l = absurd (omega (arith, l))
 same_default (x ∷ xs) zero d e l = refl

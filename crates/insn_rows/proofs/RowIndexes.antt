@@ -7,17 +7,17 @@ use Rattle.insn_rows.specs.declared.opcode.Opcode.{Opcode}
 use Rattle.insn_rows.specs.declared.row.Row.{Row}
 use Rattle.insn_rows.specs.Codes.{IsRowIndexOf}
 
--- the index is this one
+-- The index is this one.
 abbrev pub is_at : Option ℕ → ℕ → Bool
 is_at None n = false
 is_at (Some m) n = m == n
 
--- each row from the n-th on stands at the index of its opcode
+-- Each row from the n-th on stands at the index of its opcode.
 abbrev pub stand_from : (Opcode → Option ℕ) → ℕ → List Row → Bool
 stand_from row_index n [] = true
 stand_from row_index n (r ∷ rs) = is_at (row_index r.opcode) n && stand_from row_index (suc n) rs
 
--- at the index of an opcode, if it has one, stands a row of the opcode
+-- At the index of an opcode, if it has one, stands a row of the opcode.
 abbrev pub Stands : List Row → Option ℕ → Opcode → Type 0
 Stands rows None c = Unit {0}
 Stands rows (Some n) c = IsTrue (nat_lt n (length rows)) × ((d : Row) → (get_or rows n d).opcode ≡ c)

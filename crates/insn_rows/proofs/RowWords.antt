@@ -24,7 +24,7 @@ use Rattle.insn_rows.proofs.Cover.{own, cover, own_reads, own_append, scattered_
 use Rattle.insn_rows.proofs.CodesBack.{code_fits, value_back, code_back}
 use Rattle.insn_rows.proofs.Parts.{part, parts_fit, parts_fields, reads_split}
 
--- what being well made says
+-- What being well made says.
 pub record WellMade (r : Row) : Type 0 where
   pub below : r.fixed < 2 ^ 41
   pub apart : are_apart_fields (fields (operands r)) ≡ true
@@ -79,7 +79,7 @@ are_made r h = let m = well_made r h in made (operands r) m.sized m.apart
 pub fixed_below : (r : Row) → is_well_made r ≡ true → r.fixed < 2 ^ 41
 fixed_below r h = (well_made r h).below
 
--- of the fields of values that the operands may have
+-- Of the fields of values that the operands may have.
 placed : (P : List BitField → Type 0) (os : List Operand) (xs : List Value) → AllTake os xs → P (fields os) → P (map field_of (parts os xs))
 placed P os xs t h = subst P (sym (parts_fields os xs t)) h
 

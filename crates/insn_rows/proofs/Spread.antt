@@ -25,13 +25,13 @@ split p q h = elim (either (leb (p.low + p.width) q.low) (leb (q.low + q.width) 
 swap : (p q : BitField) → are_apart p q ≡ true → (q.low + q.width ≤ p.low) ⊎ (p.low + p.width ≤ q.low)
 swap p q h = elim (split p q h) [ inl a ↦ inr a | inr b ↦ inl b ]
 
--- one more field where there are zeros
+-- One more field where there are zeros.
 put_on : (b : ℕ) (p : Part) (ps : List Part) → bits p.low p.width (b + word_of ps) ≡ 0 → b + word_of (p ∷ ps) ≡ with_bits (b + word_of ps) p.low p.width p.value
 put_on b p ps empty =
     let e : b + word_of (p ∷ ps) ≡ b + word_of ps - bits p.low p.width (b + word_of ps) * 2 ^ p.low + p.value * 2 ^ p.low = rw empty (omega arith) in
     e ∙ changed (b + word_of ps) p.low p.width p.value
 
--- what lies apart from all fields is as in the fixed bits
+-- What lies apart from all fields is as in the fixed bits.
 pub untouched : (b : ℕ) (ps : List Part) (q : BitField) → list_all (are_apart q) (map field_of ps) ≡ true → AllFit ps → are_apart_fields (map field_of ps) ≡ true → list_all (is_clear b) (map field_of ps) ≡ true → bits q.low q.width (b + word_of ps) ≡ bits q.low q.width b
 untouched b [] q h fit s cl = ap (bits q.low q.width) (let e : b + 0 ≡ b = omega arith in e)
 untouched b (p ∷ ps) q h fit s cl =
@@ -51,7 +51,7 @@ kept n p [] fit h r = tt
 kept n p (q ∷ ps) fit h r =
     (with-other n p.low p.width p.value fit q.low q.width (swap (field_of p) (field_of q) (both-left _ _ h)) ∙ r.0, kept n p ps fit (both-right _ _ h) r.1)
 
--- each field has its value
+-- Each field has its value.
 pub reads_spread : (b : ℕ) (ps : List Part) → AllFit ps → are_apart_fields (map field_of ps) ≡ true → list_all (is_clear b) (map field_of ps) ≡ true → Reads (b + word_of ps) ps
 reads_spread b [] fit s cl = tt
 reads_spread b (p ∷ ps) fit s cl =
@@ -61,7 +61,7 @@ reads_spread b (p ∷ ps) fit s cl =
       kept (b + word_of ps) p ps fit.0 (both-right _ _ (both-left _ _ s)) (reads_spread b ps fit.1 (both-right _ _ s) (both-right _ _ cl)),
     )
 
--- the word has 41 bits
+-- The word has 41 bits.
 pub spread-below : (b : ℕ) (ps : List Part) → b < 2 ^ 41 → AllFit ps → are_apart_fields (map field_of ps) ≡ true → list_all (is_clear b) (map field_of ps) ≡ true → b + word_of ps < 2 ^ 41
 spread-below b [] h fit s cl = omega arith
 spread-below b (p ∷ ps) h fit s cl =

@@ -12,7 +12,7 @@ use Rattle.insn_rows.specs.declared.opcode.Opcode.TheVariants as o
 use Rattle.insn_rows.specs.declared.value.Value.{Value}
 use Rattle.insn_rows.specs.declared.value.Value.TheVariants as v
 
--- what a value is, where it is one of this kind
+-- What a value is, where it is one of this kind.
 
 abbrev pub gr_of : Value → ℕ
 gr_of (v.Gr n) = n

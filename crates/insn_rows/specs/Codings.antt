@@ -8,12 +8,12 @@ use Rattle.insn_rows.specs.declared.row.Coding.TheVariants as c
 use Rattle.insn_rows.specs.declared.value.Value.{Value}
 use Rattle.insn_rows.specs.declared.value.Value.TheVariants as v
 
--- a number has a minus sign
+-- A number has a minus sign.
 abbrev pub is_negative : ℤ → Bool
 is_negative (pos n) = false
 is_negative (negsuc n) = true
 
--- the code of the magnitude of an increment
+-- The code of the magnitude of an increment.
 abbrev pub code_of_step : ℕ → ℕ
 code_of_step n = if n == 16 then 0 else if n == 8 then 1 else if n == 4 then 2 else 3
 

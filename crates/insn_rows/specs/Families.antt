@@ -8,11 +8,11 @@ use Rattle.insn_rows.specs.Rows.{operands}
 use Rattle.insn_rows.specs.WellMade.{fields, is_table}
 use Rattle.insn_rows.specs.Codes.{IsRowIndexOf}
 
--- the fixed bits come to at least this
+-- The fixed bits come to at least this.
 abbrev pub reaches : ℕ → Row → Bool
 reaches least r = nat_le least r.fixed
 
--- the fixed bits and the operands have only the bits below this one
+-- The fixed bits and the operands have only the bits below this one.
 abbrev pub is_below : ℕ → BitField → Bool
 is_below k f = nat_le (f.low + f.width) k
 

@@ -3,7 +3,7 @@ use Rattle.std.specs.Prelude.{ℕ, suc, ◌-◌, ◌/◌, ◌^◌, ◌==◌, ◌
 use Rattle.std.specs.List.{list_all}
 use Rattle.insn_rows.specs.declared.row.Row.{Row}
 
--- a row index is among these
+-- A row index is among these.
 abbrev pub is_among : ℕ → List ℕ → Bool
 is_among n [] = false
 is_among n (m ∷ ms) = m == n || is_among n ms
@@ -13,7 +13,7 @@ abbrev pub are_indexed : List (List ℕ) → ℕ → List Row → Bool
 are_indexed index n [] = true
 are_indexed index n (r ∷ rs) = (r.format.mask / 2 ^ 37 == 2 ^ 27 - 1) && is_among n (slice_index_or index (r.fixed / 2 ^ 37) []) && are_indexed index (suc n) rs
 
--- indexes of rows
+-- indexes of rows.
 abbrev pub are_inside : List Row → List ℕ → Bool
 are_inside rows row_indexes = list_all (λ n. nat_lt n (length rows)) row_indexes
 

@@ -14,6 +14,6 @@ OneWord Code = (i : Insn) (v w : ℕ) → Code i v → Code i w → v ≡ w
 abbrev pub IsFrom : (Insn → ℕ → Type 0) → ℕ → Type 0
 IsFrom Code least = (word : ℕ) (i : Insn) → Code i word → least ≤ word
 
--- or below this.
+-- Or below this.
 abbrev pub IsBelow : (Insn → ℕ → Type 0) → ℕ → Type 0
 IsBelow Code most = (word : ℕ) (i : Insn) → Code i word → word < most

@@ -13,7 +13,7 @@ use Rattle.insn_rows.specs.declared.value.Value.TheVariants as v
 use Rattle.insn_rows.specs.Scattered.{list_of, width_of}
 use Rattle.insn_rows.specs.Rows.{operand_width}
 
--- the code that a word has in them
+-- The code that a word has in them.
 abbrev pub gathered : List BitField → ℕ → ℕ
 gathered [] word = 0
 gathered (f ∷ fs) word = bits f.low f.width word * 2 ^ width_of fs + gathered fs word
@@ -21,7 +21,7 @@ gathered (f ∷ fs) word = bits f.low f.width word * 2 ^ width_of fs + gathered 
 abbrev pub step_of_code : ℕ → ℕ
 step_of_code n = if n % 4 == 0 then 16 else if n % 4 == 1 then 8 else if n % 4 == 2 then 4 else 1
 
--- the increment with a code
+-- The increment with a code.
 abbrev pub increment_of_code : ℕ → ℤ
 increment_of_code n = if nat_lt n 4 then pos (step_of_code n) else neg_ℤ (pos (step_of_code n))
 
@@ -47,7 +47,7 @@ value c.Short width n = v.Short (signed_of width n)
 value c.Displacement width n = v.Displacement (signed_of width n)
 value coding width n = v.Small n
 
--- the values whose codes a word has in the bits of the operands
+-- The values whose codes a word has in the bits of the operands.
 abbrev pub read : List Operand → ℕ → List Value
 read [] word = []
 read (o ∷ os) word = value o.coding (operand_width o) (gathered (list_of o.bits) word) ∷ read os word

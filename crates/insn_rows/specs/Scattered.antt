@@ -5,7 +5,7 @@ use Rattle.insn_rows.specs.declared.bits.BitField.{BitField}
 use Rattle.insn_rows.specs.declared.bits.Bits.{Bits}
 use Rattle.insn_rows.specs.declared.bits.Bits.TheVariants as b
 
--- the fields from the one of the top bits down
+-- The fields from the one of the top bits down.
 abbrev pub list_of : Bits → List BitField
 list_of b.None = []
 list_of (b.One f) = f ∷ []
@@ -13,12 +13,12 @@ list_of (b.Two f g) = f ∷ g ∷ []
 list_of (b.Three f g h) = f ∷ g ∷ h ∷ []
 list_of (b.Four f g h i) = f ∷ g ∷ h ∷ i ∷ []
 
--- how many bits they have
+-- How many bits they have.
 abbrev pub width_of : List BitField → ℕ
 width_of [] = 0
 width_of (f ∷ fs) = f.width + width_of fs
 
--- the fields with a code in them, its top bits in the first
+-- The fields with a code in them, its top bits in the first.
 abbrev pub scattered : List BitField → ℕ → List Part
 scattered [] n = []
 scattered (f ∷ fs) n = field f.low f.width (bits (width_of fs) f.width n) ∷ scattered fs n

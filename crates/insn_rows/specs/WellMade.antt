@@ -16,30 +16,30 @@ use Rattle.insn_rows.specs.Rows.{operand_width, operands}
 use Rattle.insn_rows.specs.Arms.{values_of}
 use Rattle.insn_rows.specs.ArmsBack.{insn_of}
 
--- two fields share no bit
+-- Two fields share no bit.
 abbrev pub are_apart : BitField → BitField → Bool
 are_apart f g = nat_le (f.low + f.width) g.low || nat_le (g.low + g.width) f.low
 
--- fields lie in 41 bits and share none
+-- Fields lie in 41 bits and share none.
 abbrev pub are_apart_fields : List BitField → Bool
 are_apart_fields [] = true
 are_apart_fields (f ∷ fs) = nat_le (f.low + f.width) 41 && list_all (are_apart f) fs && are_apart_fields fs
 
--- a number has zeros in a field
+-- A number has zeros in a field.
 abbrev pub is_clear : ℕ → BitField → Bool
 is_clear n f = bits f.low f.width n == 0
 
--- the fields of all operands
+-- The fields of all operands.
 abbrev pub fields : List Operand → List BitField
 fields [] = []
 fields (o ∷ os) = list_of o.bits ++ fields os
 
--- the 64 bits of a number but those of the fields
+-- The 64 bits of a number but those of the fields.
 abbrev pub other_bits : List BitField → ℕ
 other_bits [] = 2 ^ 64 - 1
 other_bits (f ∷ fs) = other_bits fs - (2 ^ f.width - 1) * 2 ^ f.low
 
--- each field is among the bits that are left when it is taken away
+-- Each field is among the bits that are left when it is taken away.
 abbrev pub are_left : List BitField → Bool
 are_left [] = true
 are_left (f ∷ fs) = (bits f.low f.width (other_bits fs) == 2 ^ f.width - 1) && are_left fs
@@ -109,7 +109,7 @@ are_of_kind [] [] = true
 are_of_kind (o ∷ os) (x ∷ xs) = is_of_kind o.coding x && are_of_kind os xs
 are_of_kind os xs = false
 
--- the coding of an operand, by its number
+-- The coding of an operand, by its number.
 abbrev pub coding_at : List Operand → ℕ → Coding
 coding_at [] n = c.Absent
 coding_at (o ∷ os) zero = o.coding

@@ -59,7 +59,7 @@ pub trait Family {
         // A word has the bits of the family's, and no larger number is a word,
         ensures beyond { 2 ^ width ≤ word → IsNone result }
 
-        // nor is a smaller one than the family's least.
+        // Nor is a smaller one than the family's least.
         ensures before { word < least → IsNone result }
     {
         Self::is_family();

@@ -12,7 +12,7 @@ use Rattle.ia_meaning.specs.declared.action.Condition.TheVariants.{BitIsZero}
 use Rattle.ia_meaning.specs.declared.action.Action.TheVariants.{Compute, Test}
 use Rattle.ia_meaning.specs.Actions.{action_of, value_of, result_of}
 
--- counts of 63, 64 and 2^64 - 1
+-- Counts of 63, 64 and 2^64 - 1.
 shr_63 : shift Shr (2 ^ 63) 63 ≡ 2 ^ 64 - 1
 shr_63 = refl
 
@@ -40,7 +40,7 @@ shl_most = refl
 shrp_63 : shift_pair 63 1 (2 ^ 63) ≡ 3
 shrp_63 = refl
 
--- a field that passes bit 63: its sign is bit 63
+-- A field that passes bit 63: its sign is bit 63.
 extr_cut : extract true 60 8 (2 ^ 63) ≡ 0xffff_ffff_ffff_fff8
 extr_cut = refl
 
@@ -63,7 +63,7 @@ addp4_high_bits = refl
 addp4_carry : alu Addp4 0xffff_ffff 0x4000_0001 ≡ 0x2000_0000_4000_0000
 addp4_carry = refl
 
--- the bits shifted out and the carry past bit 63 are lost
+-- The bits shifted out and the carry past bit 63 are lost.
 shladd_wraps : shift_add false 4 0x1fff_ffff_ffff_ffff 0x11 ≡ 1
 shladd_wraps = refl
 
@@ -77,21 +77,21 @@ sub_immediate = (refl, refl)
 adds_immediate : (action_of (AddImm14 false 1 (negsuc 0) 2) ≡ Compute 1 0 2 (AluImmediate Add (negsuc 0))) × (value_of (AluImmediate Add (negsuc 0)) 7 0 ≡ 2 ^ 64 - 1)
 adds_immediate = (refl, refl)
 
--- 2^63 is the least signed number, and above 2^63 - 1 unsigned
+-- 2^63 is the least signed number, and above 2^63 - 1 unsigned.
 lt_signed : compared false Lt (2 ^ 63) (2 ^ 63 - 1) ≡ true
 lt_signed = refl
 
 lt_unsigned : compared false Ltu (2 ^ 63) (2 ^ 63 - 1) ≡ false
 lt_unsigned = refl
 
--- cmp4 sees no bit from 32 on, and its sign is bit 31
+-- cmp4 sees no bit from 32 on, and its sign is bit 31.
 cmp4_bit_32 : compared true Eq (2 ^ 32 + 5) 5 ≡ true
 cmp4_bit_32 = refl
 
 cmp4_sign : compared true Ge (2 ^ 32 - 1) (2 ^ 32) ≡ false
 cmp4_sign = refl
 
--- tbit.z is true where the bit is 0, and has no result where the register has NaT
+-- tbit.z is true where the bit is 0, and has no result where the register has NaT.
 tbit_of_bit : (action_of (Tbit false 6 7 8 63) ≡ Test Normal 6 7 0 8 (BitIsZero 63)) × (result_of (BitIsZero 63) (record { value = 0; nat = false }) (record { value = 2 ^ 63; nat = false }) ≡ Some false)
 tbit_of_bit = (refl, refl)
 

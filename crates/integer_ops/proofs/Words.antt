@@ -15,11 +15,11 @@ ones_of width h = let e : 64 - (64 - width) ≡ width = omega arith in ones_shr 
 pub masked : (number mask width : ℕ) → mask ≡ 2 ^ width - 1 → bit_and number mask ≡ number % 2 ^ width
 masked number mask width e = ap (bit_and number) e ∙ and_mask number width
 
--- the weights of the two parts of a word
+-- The weights of the two parts of a word.
 word_at : (count : ℕ) → count ≤ 64 → 2 ^ (64 - count) * 2 ^ count ≡ 2 ^ 64
 word_at count h = let e : 64 - count + count ≡ 64 = omega arith in sym (pow-add 2 (64 - count) count) ∙ ap (λ k. 2 ^ k) e
 
--- a word shifted left
+-- A word shifted left.
 shifted_left : (a count : ℕ) → count ≤ 64 → (a * 2 ^ (64 - count)) % 2 ^ 64 ≡ (a % 2 ^ count) * 2 ^ (64 - count)
 shifted_left a count h =
     let k = 64 - count in
@@ -30,7 +30,7 @@ shifted_left a count h =
     let split : (a * 2 ^ k) % 2 ^ (count + k) ≡ (a % 2 ^ count) * 2 ^ k = parts ∙ (rw (high, low) (omega arith)) in
     rw e at split
 
--- a pair shifted right, before it is cut
+-- A pair shifted right, before it is cut.
 pair_right : (count a b : ℕ) → count ≤ 64 → (2 ^ 64 * a + b) / 2 ^ count ≡ a * 2 ^ (64 - count) + b / 2 ^ count
 pair_right count a b h =
     let k = 64 - count in
@@ -49,7 +49,7 @@ pair_of count a b h fit =
     let cut : sum % 2 ^ (count + k) ≡ (a % 2 ^ count) * 2 ^ k + b / 2 ^ count = mod-pow-add sum count k ∙ (rw (shr_high a k (b / 2 ^ count) low, mod_low a k (b / 2 ^ count) low) refl) in
     ap (λ x. bit_or x (b / 2 ^ count)) (shifted_left a count (omega arith)) ∙ joined ∙ sym (rw e at cut) ∙ ap (λ x. x % 2 ^ 64) (sym (pair_right count a b (omega arith)))
 
--- the ones of a field at its position
+-- The ones of a field at its position.
 field_ones : (pos width : ℕ) → (2 ^ width - 1) * 2 ^ pos ≡ 2 ^ (width + pos) - 2 ^ pos
 field_ones pos width = mul_comm (2 ^ width - 1) (2 ^ pos) ∙ mul-sub (2 ^ pos) (2 ^ width) 1 ∙ (rw (pow-add 2 width pos) (omega arith))
 
@@ -62,7 +62,7 @@ ones_below pos width h =
     let most = pow-le-pow_right {n = 2} (omega arith) (let g : width + pos ≤ 64 = omega arith in g) in
     omega arith
 
--- a number as what is above a field, the field and what is below it
+-- A number as what is above a field, the field and what is below it.
 three_parts : (pos width a : ℕ) → a ≡ (a / 2 ^ (pos + width) * 2 ^ width) * 2 ^ pos + (a / 2 ^ pos % 2 ^ width) * 2 ^ pos + a % 2 ^ pos
 three_parts pos width a =
     let high = shr_split (a / 2 ^ pos) width in
@@ -84,7 +84,7 @@ others_of pos width a h fit =
     let turned' = and_comm a (2 ^ 64 - 1 - ones) in
     omega arith
 
--- three parts by their weights
+-- Three parts by their weights.
 weighed : (top width field pos rest : ℕ) → (top * width + field) * pos + rest ≡ rest + pos * field + (pos * width) * top
 weighed top width field pos rest =
     let apart = add-mul (top * width) field pos in
@@ -105,7 +105,7 @@ deposited pos width field a h fit low =
     let sum : (top * 2 ^ width + field) * 2 ^ pos + rest ≡ rest + 2 ^ pos * field + 2 ^ (pos + width) * top = weighed top (2 ^ width) field (2 ^ pos) rest ∙ ap (λ x. rest + 2 ^ pos * field + x * top) (sym (pow-add 2 pos width)) in
     rw (ones, others_of pos width a h fit, shifted, block, joined, or_zero_r rest) sum
 
--- a number moved to the top of a word and back, with its sign: where its top bit is 0
+-- A number moved to the top of a word and back, with its sign: where its top bit is 0.
 extended_small : (width number : ℕ) → 1 ≤ width → width ≤ 64 → number < 2 ^ (width - 1) → shift_right_signed (number * 2 ^ (64 - width)) (64 - width) ≡ extended width number
 extended_small width number some within small =
     let unused = 64 - width in
@@ -114,7 +114,7 @@ extended_small width number some within small =
     let few : unused < 64 = omega arith in
     rw (lt-ltb (number * 2 ^ unused) (2 ^ 63) low, lt-ltb unused 64 few, lt-ltb number (2 ^ (width - 1)) small) (shl-shr number unused)
 
--- the complement of the number that was moved, moved back
+-- The complement of the number that was moved, moved back.
 turned_right : (width number : ℕ) → width ≤ 64 → number < 2 ^ width → (2 ^ 64 - 1 - number * 2 ^ (64 - width)) / 2 ^ (64 - width) ≡ 2 ^ width - 1 - number
 turned_right width number within fits =
     let unused = 64 - width in
@@ -146,7 +146,7 @@ extended_large width number some within large fits =
 by_lt : {P : Type 0} (a b : ℕ) → (a < b → P) → (b ≤ a → P) → P
 by_lt a b f g = ⊎_elim f g (cases_lt a b)
 
--- a number moved to the top of a word and back, with its sign
+-- A number moved to the top of a word and back, with its sign.
 pub extended_of : (width number : ℕ) → 1 ≤ width → width ≤ 64 → number < 2 ^ width → shift_right_signed ((number * 2 ^ (64 - width)) % 2 ^ 64) (64 - width) ≡ extended width number
 extended_of width number some within fits =
     let whole = shl_whole number width (64 - width) 64 fits (omega arith) in

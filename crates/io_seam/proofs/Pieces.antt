@@ -12,14 +12,14 @@ take-add i n bytes =
     ∙ ap (λ l. l ++ drop i (take (i + n) bytes)) (take-take i (i + n) bytes (omega arith))
     ∙ ap (λ l. take i bytes ++ l) (drop-take i n bytes)
 
--- what was given before and what a call on the rest gives are a longer front of the bytes
+-- What was given before and what a call on the rest gives are a longer front of the bytes.
 pub Appends-next : (a b c : Option (List ℕ)) (bytes : List ℕ) (i n : ℕ) → i + n ≤ length bytes → Appends a b (take i bytes)
     → Appends b c (take n (take (length bytes - i) (drop i bytes))) → Appends a c (take (i + n) bytes)
 Appends-next a b c bytes i n within before now =
     let part = take-take n (length bytes - i) (drop i bytes) (omega arith) in
     subst (Appends a c) (sym (take-add i n bytes)) (Appends-trans a b c _ _ before (subst (Appends b c) part now))
 
--- what is consumed is the front of what was left
+-- What is consumed is the front of what was left.
 pub LosesFirst-consumed : (old new : Option (List ℕ)) (bytes : List ℕ) → Consumes old new bytes → IfSome old (λ left. LosesFirst (length bytes) left new)
 LosesFirst-consumed None new bytes h = tt
 LosesFirst-consumed (Some left) None bytes h = absurd h

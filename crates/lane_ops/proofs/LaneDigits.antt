@@ -27,7 +27,7 @@ digits_of_number p (suc n) (x ∷ xs) e h =
     let high : (x + p * rest) / p ≡ rest = ap (λ m. m / p) turn ∙ mul-add-div (let some : 0 < p = omega (arith, h.0) in some) rest x ∙ (rw (div-eq_of_lt h.0) (omega arith)) in
     rw (low, high, digits_of_number p n xs (omega (arith, e)) h.1) refl
 
--- the sum of lanes, each at its place, is the number whose digits they are
+-- The sum of lanes, each at its place, is the number whose digits they are.
 lanes_are : (f : LaneFn) (w a b k n : ℕ) → number_l (2 ^ w) (zip2 (lane_value f w) (digits_l (2 ^ w) n (a / 2 ^ (w * k))) (digits_l (2 ^ w) n (b / 2 ^ (w * k)))) * 2 ^ (w * k) ≡ lanes_from f w a b k n
 lanes_are f w a b k zero = omega arith
 lanes_are f w a b k (suc n) =
@@ -55,11 +55,11 @@ sum_of_lanes f w n a b =
 by_bytes : (x0 x1 x2 x3 x4 x5 x6 x7 : ℕ) → from_le_bytes w64 (x0 ∷ x1 ∷ x2 ∷ x3 ∷ x4 ∷ x5 ∷ x6 ∷ x7 ∷ []) ≡ number_l 256 (x0 ∷ x1 ∷ x2 ∷ x3 ∷ x4 ∷ x5 ∷ x6 ∷ x7 ∷ [])
 by_bytes x0 x1 x2 x3 x4 x5 x6 x7 = omega arith
 
--- the word with these bytes
+-- The word with these bytes.
 word_of_bytes : (n : ℕ) → n < 2 ^ 64 → from_le_bytes w64 (digits_l 256 8 n) ≡ n
 word_of_bytes n h = by_bytes _ _ _ _ _ _ _ _ ∙ number_of_digits 8 8 n h
 
--- the bytes of a word
+-- The bytes of a word.
 number_of_bytes : (a : ℕ) → a < 2 ^ 64 → number_l 256 (to_le_bytes w64 a) ≡ a
 number_of_bytes a h = sym (by_bytes _ _ _ _ _ _ _ _) ∙ from_le_bytes-to_le_bytes_8 a h
 
@@ -79,7 +79,7 @@ long : (f : LaneFn) (w p n a b : ℕ) → length (zip2 (lane_value f w) (digits_
 long f w p zero a b = refl
 long f w p (suc n) a b = ap suc (long f w p n (a / p) (b / p))
 
--- in lanes of more than a byte
+-- In lanes of more than a byte.
 pub by_lanes : (f : LaneFn) (w n a b : ℕ) (us vs made bytes : List ℕ) → a < 2 ^ 64 → b < 2 ^ 64 → w * n ≡ 64 → us ≡ to_le_bytes w64 a → vs ≡ to_le_bytes w64 b
     → made ≡ zip2 (lane_value f w) (digits_l (2 ^ w) n (number_l 256 us)) (digits_l (2 ^ w) n (number_l 256 vs))
     → bytes ≡ digits_l 256 8 (number_l (2 ^ w) made) → from_le_bytes w64 bytes ≡ lanes_from f w a b 0 n
@@ -95,7 +95,7 @@ by_lanes f w n a b us vs made bytes h k whole us_are vs_are made_are bytes_are =
     let below : number_l (2 ^ w) zs < 2 ^ 64 = omega (arith, sum, rw bits at most, some) in
     ap (from_le_bytes w64) (bytes_are ∙ ap (λ xs. digits_l 256 8 (number_l (2 ^ w) xs)) are) ∙ word_of_bytes (number_l (2 ^ w) zs) below ∙ sum
 
--- in bytes
+-- In bytes.
 pub by_single_bytes : (f : LaneFn) (a b : ℕ) (us vs bytes : List ℕ) → a < 2 ^ 64 → b < 2 ^ 64 → us ≡ to_le_bytes w64 a → vs ≡ to_le_bytes w64 b → bytes ≡ zip2 (lane_value f 8) us vs → from_le_bytes w64 bytes ≡ lanes_from f 8 a b 0 8
 by_single_bytes f a b us vs bytes h k us_are vs_are are =
     let same = λ (ws : List ℕ) (n : ℕ) (l : n < 2 ^ 64) (e : ws ≡ to_le_bytes w64 n). e ∙ bytes_are n l ∙ ap (digits_l 256 8) (sym (ap (number_l 256) e ∙ number_of_bytes n l)) in

@@ -15,7 +15,7 @@ use Rattle.loose_items.specs.declared.packing.PlainPacking.{PlainPacking}
 use Rattle.loose_items.specs.Packings.{wanted_as, joins, plain_on, plain_of}
 use Rattle.loose_items.specs.PlainPackings.{held, IsPacked, ArePacked}
 
--- three leave no room
+-- Three leave no room.
 none_with : (a b c : Wanted) (cs : List Wanted) (w : Wanted) → laid_out (a ∷ b ∷ c ∷ (cs ++ w ∷ [])) false ≡ None
 none_with a b c [] w = too_long a b c w [] false
 none_with a b c (d ∷ ds) w = too_long a b c d (ds ++ w ∷ []) false
@@ -35,7 +35,7 @@ full_joins_none (a ∷ b ∷ c ∷ cs) before item gap full =
 pub three_join_none : (h : Held) (a b c : Wanted) (before item : Item) (gap : Bool) → h ≡ Three a b c → joins (held h) before item gap ≡ false
 three_join_none h a b c before item gap is = rw is (full_joins_none (a ∷ b ∷ c ∷ []) before item gap (omega arith))
 
--- one instruction alone
+-- One instruction alone.
 pub one_packed : (item : Item) → IsPacked (item ∷ []) (wanted_as item false ∷ []) item 1
 one_packed item = record { closed = []; count = omega arith; few = omega arith; rest = λ more. refl }
 
@@ -70,13 +70,13 @@ begun_packed items current before item bundles full h is =
       rest = λ more. next_if (joins current before item false) false items more item h.closed (plain_on (current ++ wanted_as item false ∷ []) item more) (current ∷ plain_on (wanted_as item false ∷ []) item more) is (h.rest (item ∷ more)) ∙ sym (append_assoc h.closed (current ∷ []) (plain_on (wanted_as item false ∷ []) item more));
     }
 
--- a bundle holds three at most
+-- A bundle holds three at most.
 pub held_few : (h : Held) → length (held h) ≤ 3
 held_few (One a) = omega arith
 held_few (Two a b) = omega arith
 held_few (Three a b c) = omega arith
 
--- how many bundles there are
+-- How many bundles there are.
 pub packed_count : (items : List Item) (current : List Wanted) (before : Item) (bundles : ℕ) → IsPacked items current before bundles → length (plain_of items) ≡ bundles
 packed_count items current before bundles h =
     let all : plain_of items ≡ h.closed ++ current ∷ [] = ap plain_of (sym (append-nil items)) ∙ h.rest [] in
@@ -107,7 +107,7 @@ pub other_line : (items : List Item) (item : Item) (k : ℕ) → plain_of (items
 other_line [] item k = refl
 other_line (i ∷ is) item k = other_line_on (wanted_as i false ∷ []) i is item k
 
--- room for one instruction more
+-- Room for one instruction more.
 pub no_room : (items : List Item) (item : Item) (p : PlainPacking) → IsPacked (items ++ item ∷ []) (held p.held) p.before p.bundles → BUNDLE_LIMIT < p.bundles → ¬ (length (plain_of (items ++ item ∷ [])) ≤ BUNDLE_LIMIT)
 no_room items item p h over room = omega (arith, packed_count (items ++ item ∷ []) (held p.held) p.before p.bundles h, over, room)
 

@@ -8,7 +8,7 @@ use Rattle.loose_items.specs.declared.packing.Held.TheVariants.{One, Two, Three}
 use Rattle.loose_items.specs.declared.packing.PlainPacking.{PlainPacking}
 use Rattle.loose_items.specs.Packings.{plain_on, plain_of}
 
--- what a bundle holds, in order
+-- What a bundle holds, in order.
 abbrev pub held : Held → List Wanted
 held (One a) = a ∷ []
 held (Two a b) = a ∷ b ∷ []

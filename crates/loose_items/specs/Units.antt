@@ -4,7 +4,7 @@ use Rattle.ia_insn.specs.declared.choices.Unit.TheVariants as unit
 use Rattle.ia_insn.specs.declared.insn.Op.{Op}
 use Rattle.ia_insn.specs.declared.insn.Op.TheVariants as op
 
--- the unit of an instruction without its unit letter
+-- The unit of an instruction without its unit letter.
 abbrev pub bare_unit : Op → ExecutionUnit
 bare_unit (op.ChkS u r2 disp) = unit.M
 bare_unit x = unit.I

@@ -31,17 +31,17 @@ use Rattle.loose_items.specs.Packings.{plain_of}
 use Rattle.loose_text.specs.SoundParts.{IsMarked, MayBeNamed, IsSound}
 use Rattle.loose_text.proofs.NamedTargets.{breaks_at, each_target}
 
--- lines that declare relations have no fault
+-- Lines that declare relations have no fault.
 abbrev pub AreRelated : LooseParts → Type 0
 AreRelated s = ArePassed (relation_stages (IsItemEntry (loose_of s).items (loose_of s).entries) [] s.declared.relations)
 
--- instructions by their numbers
+-- Instructions by their numbers.
 listed_at : (lines : List ItemLine) → AllByRecursion (λ (l : ItemLine). IsListed l.item.insn) lines → (n : ℕ) → IfSome (slice_get (items_of lines) n) (λ i. IsListed i.insn)
 listed_at [] all n = tt
 listed_at (l ∷ ls) all zero = all.0
 listed_at (l ∷ ls) all (suc n) = listed_at ls all.1 n
 
--- declared entries are marked instructions
+-- Declared entries are marked instructions.
 known_marked : (s : LooseParts) (n : ℕ) (o : Option Address) → o ≡ Some (address.Bundle n) → IfSome o (MayBeNamed s) → IsMarked s n
 known_marked s n o is known = rw is at known
 
@@ -58,7 +58,7 @@ risen_below low count (m ∷ ns) n rise has = elim (first_or_later m n ns has) [
   | inr later ↦ risen_below m count ns n rise.2 later
 ]
 
--- relations of lines, each before a marked instruction, are of marked ones
+-- Relations of lines, each before a marked instruction, are of marked ones.
 with_entries : (Old New : ℕ → Type 0) (before : List Relation) (lines : List RelationLine) → ArePassed (relation_stages Old before lines) → AllByRecursion (λ (l : RelationLine). New l.bundle) lines → ArePassed (relation_stages New before lines)
 with_entries Old New before [] passed all = tt
 with_entries Old New before (l ∷ ls) passed all = (all.0, (passed.1.0, with_entries Old New (related before l) ls passed.1.1 all.1))
@@ -67,7 +67,7 @@ relation_marked : (s : LooseParts) → IsSound s → AreRelated s → (r : Relat
 relation_marked s sound related =
     related_landed (IsMarked s) [] s.declared.relations (with_entries _ (IsMarked s) [] s.declared.relations related sound.relations) (λ r never. absurd (none_there r never))
 
--- each of them is of an entry, and so of an instruction
+-- Each of them is of an entry, and so of an instruction.
 relation_inside : (s : LooseParts) → AreRelated s → (r : Relation) → Contains (loose_of s).relations r → r.bundle < length (items_of s.items)
 relation_inside s related r has =
     (related_landed (IsItemEntry (loose_of s).items (loose_of s).entries) [] s.declared.relations related (λ r never. absurd (none_there r never)) r has).inside
@@ -118,7 +118,7 @@ parts_are_loose s t items targets entries relations bytes sound few within below
     let each_here : AreBytes (loose_of s).bytes = subst (λ (u : Loose). AreBytes u.bytes) same each in
     subst IsLoose (sym same) (loose_is s sound few within below some none related here each_here)
 
--- lines have no fault where they have none among the text's instructions and entries
+-- Lines have no fault where they have none among the text's instructions and entries.
 pub related_of : (s : LooseParts) (items : List Item) (entries : List ℕ) (lines : List RelationLine) → items ≡ (loose_of s).items → entries ≡ (loose_of s).entries → lines ≡ s.declared.relations
     → ArePassed (relation_stages (IsItemEntry items entries) [] lines) → AreRelated s
 related_of s items entries lines is es ls passed =

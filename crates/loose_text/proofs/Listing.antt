@@ -42,11 +42,11 @@ check_row : (qp r2 : ℕ) (disp : ℤ) → qp < 64 → r2 < 128 → FitsSigned 2
 unfolding rows_m listed
 check_row qp r2 disp small register near = grind arith
 
--- the number of a hint is narrow
+-- The number of a hint is narrow.
 narrow_hint : (u : ExecutionUnit) (imm : ℕ) → IsHintOf u imm → imm < 2 ^ 21
 narrow_hint u imm h = grind arith
 
--- an operation without its unit letter, with the unit that it has then
+-- An operation without its unit letter, with the unit that it has then.
 bare_listed : (qp : ℕ) (x : Op) → IsNarrow x → IsListed (record { qp = qp; op = x }) → IsListed (record { qp = qp; op = lettered (bare_unit x) x })
 bare_listed qp (op.Break u imm) narrow l = inr (inl (of_row_i _ (break_row qp imm (printed _ l).0 narrow)))
 bare_listed qp (op.Nop u imm) narrow l = inr (inl (of_row_i _ (nop_row qp imm (printed _ l).0 narrow)))

@@ -16,7 +16,7 @@ use Rattle.loose_text.specs.LooseReading.{unnamed_item, target_of, loose_of}
 use Rattle.loose_text.specs.LooseTexts.{BreaksAt, IsPlace, IsTargetOf}
 use Rattle.loose_text.specs.SoundParts.{IsMarked, MayBeNamed, IsSound}
 
--- a name that means something that fits does so wherever the operation stands
+-- A name that means something that fits does so wherever the operation stands.
 anywhere : (x : Op) (a : Address) (m n : ℕ) → is_some (addressed x a m) ≡ is_some (addressed x a n)
 anywhere (op.ChkS unit r2 disp) (address.Bundle k) m n = refl
 anywhere (op.ChkA clear r1 disp) (address.Bundle k) m n = refl
@@ -26,7 +26,7 @@ anywhere (op.Movl r1 imm) (address.Bundle k) m n = refl
 anywhere (op.Movl r1 imm) (address.Byte at) m n = refl
 anywhere x a m n = refl
 
--- a marked instruction that there is
+-- A marked instruction that there is.
 marked_breaks : (lines : List ItemLine) (fresh : Bool) (n : ℕ) → get_or (map (λ (l : ItemLine). l.item.breaks) lines ++ fresh ∷ []) n false ≡ true → n < length lines → BreaksAt (items_of lines) n
 marked_breaks [] fresh n h inside = absurd (omega (arith, inside))
 marked_breaks (l ∷ ls) fresh zero h inside = h
@@ -39,7 +39,7 @@ known_place : (s : LooseParts) (a : Address) → MayBeNamed s a → IsInside (le
 known_place s (address.Bundle n) h inside = breaks_at s n h inside
 known_place s (address.Byte at) h inside = h
 
--- what the name of an operation means, where it means something that fits
+-- What the name of an operation means, where it means something that fits.
 unnamed_has_none : (o : Option ℤ) (x : Op) → is_some (if is_some o then None else Some x) ≡ true → o ≡ None
 unnamed_has_none None x h = refl
 unnamed_has_none (Some z) x h = cc
@@ -54,7 +54,7 @@ target_fits s x n None sound below h = unnamed_has_none (displacement x) x h
 target_fits s x n (Some name) sound below h =
     address_fits s x n (address_of s.declared.labels name) (label_within (MayBeNamed s) s.declared.labels name sound.labels) (label_within (IsInside (length s.items)) s.declared.labels name below) h
 
--- of the n-th instruction, where each name means something that fits
+-- Of the n-th instruction, where each name means something that fits.
 found_here : (b : Bool) (line : ℕ) (rest : Option ℕ) → (if b then rest else Some line) ≡ None → (b ≡ true) × (rest ≡ None)
 found_here true line rest h = (refl, h)
 found_here false line rest h = cc

@@ -26,7 +26,7 @@ end_sound count s = (
 sound : IsSoundReading loose_reading
 sound = record { stages = value_sound; ends = end_sound }
 
--- the three laws
+-- The three laws.
 pub one_loose : HaveOneAnswer → OneLooseText
 one_loose one text s t a b =
     a.loose ∙ ap loose_of (one_state one loose_reading sound text a.parts b.parts a.lines b.lines) ∙ sym b.loose

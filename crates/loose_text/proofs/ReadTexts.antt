@@ -71,7 +71,7 @@ record IsFit (s : LooseParts) : Type 0 where
 same_fit : (s t : LooseParts) → IsFit s → t.items ≡ s.items → t.declared.relations ≡ s.declared.relations → t.declared.bytes ≡ s.declared.bytes → IsFit t
 same_fit s t h items relations bytes = record { room = rw items h.room; related = rw relations h.related; bytes = rw bytes h.bytes }
 
--- an instruction more, for which there is room
+-- An instruction more, for which there is room.
 slot_fit : (s : LooseParts) (l : ItemLine) (k : ℕ) → IsFit s
     → length (plain_of (items_of s.items ++ record { line = k; insn = l.item.insn; breaks = l.item.breaks; written = l.item.written } ∷ [])) ≤ BUNDLE_LIMIT
     → IsFit (record { declared = s.declared; items = s.items ++ l ∷ []; fresh = false })
@@ -124,7 +124,7 @@ comes_fit s n (line ∷ lines) r t h is (inr (value, (says, passed), rest)) =
 all_fit : (text : List ℕ) (s : LooseParts) → AllSayBy loose_reading text s → IsFit s
 all_fit text s says = comes_fit start 1 (text_lines text) (Ok s) s (record { room = omega arith; related = tt; bytes = tt }) refl says
 
--- the relations that lines declare are relations
+-- The relations that lines declare are relations.
 all_stay : (IsEntry : ℕ → Type 0) (before : List Relation) (lines : List RelationLine) → ArePassed (relation_stages IsEntry before lines) → AllByRecursion (λ (l : RelationLine). All IsRelated l.predicates) lines
     → AreRelationsOf IsEntry before → AreRelationsOf IsEntry (all_related before lines)
 all_stay IsEntry before [] passed all h = h

@@ -31,7 +31,7 @@ use Rattle.ia_insn.specs.declared.insn.Op.{Op}
 use Rattle.asm_forms.specs.Items.{taken}
 use Rattle.asm_reading.specs.Lines.{KindAndText, ◌>>=◌, or_fault, tokens, texts, name_of, label_name, lead_at, ends_in_stop, without_stop, predicate_of, draft_of, completers_or_none, slot_under, slot_of, data_field, agreed_data, numbers_of, data_fault, data_of, named, directive_value, directive_of, alone, formed, among, marked, template_name_of, opened_as, opened, mark_led, led_by, led_at, led, is_name_lexeme, is_colon, label_of, value_of, reading_of, relation_of}
 
--- the predicates of a relation line
+-- The predicates of a relation line.
 abbrev pub NamesRelated : Line → Type 0
 NamesRelated (line.Relation ps) = All IsRelated ps
 NamesRelated value = Unit {0}

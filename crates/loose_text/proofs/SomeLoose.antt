@@ -26,7 +26,7 @@ use Rattle.loose_text.specs.LooseReading.{unnamed_item, name_fault, loose_of, en
 use Rattle.loose_text.specs.LooseTexts.{IsAfterCall, IsItemEntry}
 use Rattle.loose_items.specs.Packings.{plain_of}
 
--- what a line says
+-- What a line says.
 is_narrow : (x : Op) → Dec (IsNarrow x)
 is_narrow (op.Break u imm) = dec_lt imm _
 is_narrow (op.Nop u imm) = dec_lt imm _
@@ -57,7 +57,7 @@ value_decided s value = (
   (decided (may_stand s value), (decided (decided_outside.is_new s.declared value), (decided (has_room s value), tt))),
 )
 
--- what is looked for after the last line
+-- What is looked for after the last line.
 is_after_call : (items : List Item) (n : ℕ) → Dec (IsAfterCall items n)
 is_after_call items n = both (dec_le 1 n) (some_and (slice_get items (n - 1)) (λ i. is_call i.insn.op))
 
@@ -78,7 +78,7 @@ end_decided count s = (
   ),
 )
 
--- the faults after it are of a line
+-- The faults after it are of a line.
 name_of_line : (s : LooseParts) → IfSome (name_fault s) IsOfLine
 name_of_line s =
     of_names (unnamed_item s.declared.labels 0 s.items) (all_declared s.declared.labels [] s.declared.entries) (of_entries s.declared.labels [] s.declared.entries)

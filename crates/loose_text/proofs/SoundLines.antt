@@ -29,11 +29,11 @@ use Rattle.loose_text.specs.LooseReading.{loose_reading}
 use Rattle.loose_text.specs.SoundParts.{marks, IsMarked, MayBeNamed, IsSound}
 use Rattle.loose_text.proofs.Listing.{draft_listed}
 
--- whether the instructions of lines are marked
+-- Whether the instructions of lines are marked.
 abbrev breaks : List ItemLine → List Bool
 breaks lines = map (λ (l : ItemLine). l.item.breaks) lines
 
--- what is marked stays so
+-- What is marked stays so.
 still : (xs ys : List Bool) (n : ℕ) → get_or xs n false ≡ true → get_or (xs ++ ys) n false ≡ true
 still [] ys n h = cc
 still (x ∷ xs) ys zero h = h
@@ -46,12 +46,12 @@ raised [] true fresh (suc n) h = h
 raised (x ∷ xs) true fresh zero h = h
 raised (x ∷ xs) true fresh (suc n) h = raised xs true fresh n h
 
--- what comes next is marked where it is to be
+-- What comes next is marked where it is to be.
 marked_next : (lines : List ItemLine) → get_or (breaks lines ++ true ∷ []) (length lines) false ≡ true
 marked_next [] = refl
 marked_next (l ∷ ls) = marked_next ls
 
--- the marks with one instruction more, and with a stop after the last
+-- The marks with one instruction more, and with a stop after the last.
 one_more : (lines : List ItemLine) (l : ItemLine) → breaks (lines ++ l ∷ []) ≡ breaks lines ++ l.item.breaks ∷ []
 one_more [] l = refl
 one_more (k ∷ ks) l = ap (λ bs. k.item.breaks ∷ bs) (one_more ks l)
@@ -61,17 +61,17 @@ stopped_breaks [] = refl
 stopped_breaks (l ∷ []) = refl
 stopped_breaks (l ∷ m ∷ ls) = ap (λ bs. l.item.breaks ∷ bs) (stopped_breaks (m ∷ ls))
 
--- facts of each element, from facts of each
+-- Facts of each element, from facts of each.
 all_map : {X : Type 0} (P Q : X → Type 0) (xs : List X) → ((x : X) → P x → Q x) → AllByRecursion P xs → AllByRecursion Q xs
 all_map P Q [] to all = tt
 all_map P Q (x ∷ xs) to all = (to x all.0, all_map P Q xs to all.1)
 
--- what is known stays so where what is marked does
+-- What is known stays so where what is marked does.
 known_still : (s t : LooseParts) → ((n : ℕ) → IsMarked s n → IsMarked t n) → (a : Address) → MayBeNamed s a → MayBeNamed t a
 known_still s t to (address.Bundle n) h = to n h
 known_still s t to (address.Byte at) h = h
 
--- the same lines, labels, relations and data, and no less marked
+-- The same lines, labels, relations and data, and no less marked.
 kept : (s t : LooseParts) → IsSound s → ((n : ℕ) → IsMarked s n → IsMarked t n) → AllByRecursion (λ (l : ItemLine). IsListed l.item.insn) t.items
     → t.declared ≡ s.declared → IsSound t
 kept s t h to listed same = record {
@@ -81,11 +81,11 @@ kept s t h to listed same = record {
   bytes = rw same h.bytes;
 }
 
--- the labels with one more
+-- The labels with one more.
 abbrev labels_with : LooseParts → List ℕ → Address → Labels
 labels_with s name a = insert_entry (slice_cmp nat_cmp) s.declared.labels name a
 
--- what a label names that stands here
+-- What a label names that stands here.
 here_known : (part : Section) (s t : LooseParts) → length s.declared.bytes ≤ DATA_LIMIT → (IsTrue (is_text part) → IsMarked t (length s.items)) → MayBeNamed t (address_in part (address.Bundle (length s.items)) s.declared.bytes)
 here_known section.Text s t few marked = marked refl
 here_known section.Data s t few marked = few
@@ -105,7 +105,7 @@ kept_relations : (s : LooseParts) (more : Bool) (declared : TextParts) → IsSou
 kept_relations s more declared h =
     all_map (λ (l : RelationLine). IsMarked s l.bundle) (λ (l : RelationLine). IsMarked (with_declared s more declared) l.bundle) s.declared.relations (λ l m. kept_marks s more declared l.bundle m) h.relations
 
--- a label more
+-- A label more.
 label_sound : (s : LooseParts) (part : Section) (name : List ℕ) (declared : TextParts) → IsSound s → declared.labels ≡ labels_with s name (address_in part (address.Bundle (length s.items)) s.declared.bytes)
     → declared.relations ≡ s.declared.relations → declared.bytes ≡ s.declared.bytes → IsSound (with_declared s (is_text part) declared)
 label_sound s part name declared h labels relations bytes =
@@ -118,7 +118,7 @@ label_sound s part name declared h labels relations bytes =
       bytes = rw bytes h.bytes;
     }
 
--- nothing but data more
+-- Nothing but data more.
 data_sound : (s : LooseParts) (declared : TextParts) → IsSound s → declared.labels ≡ s.declared.labels → declared.relations ≡ s.declared.relations → length declared.bytes ≤ DATA_LIMIT → IsSound (with_declared s false declared)
 data_sound s declared h labels relations few = record {
   listed = h.listed;
@@ -127,7 +127,7 @@ data_sound s declared h labels relations few = record {
   bytes = few;
 }
 
--- relations more
+-- Relations more.
 relation_sound : (s : LooseParts) (declared : TextParts) (l : RelationLine) → IsSound s → l.bundle ≡ length s.items → declared.labels ≡ s.declared.labels → declared.relations ≡ s.declared.relations ++ l ∷ [] → declared.bytes ≡ s.declared.bytes
     → IsSound (with_declared s true declared)
 relation_sound s declared l h next labels relations bytes =
@@ -140,14 +140,14 @@ relation_sound s declared l h next labels relations bytes =
       bytes = rw bytes h.bytes;
     }
 
--- an instruction more
+-- An instruction more.
 slot_sound : (s : LooseParts) (l : ItemLine) → IsSound s → l.item.breaks ≡ s.fresh → IsListed l.item.insn → IsSound (record { declared = s.declared; items = s.items ++ l ∷ []; fresh = false })
 slot_sound s l h same listed =
     let t : LooseParts = record { declared = s.declared; items = s.items ++ l ∷ []; fresh = false } in
     let grown : marks t ≡ marks s ++ false ∷ [] = ap (λ bs. bs ++ false ∷ []) (one_more s.items l ∙ ap (λ b. breaks s.items ++ b ∷ []) same) in
     kept s t h (λ n m. rw grown (still (marks s) (false ∷ []) n m)) (all_both (λ (k : ItemLine). IsListed k.item.insn) s.items (l ∷ []) h.listed (listed, tt)) refl
 
--- a stop after the last
+-- A stop after the last.
 listed_stopped : (lines : List ItemLine) → AllByRecursion (λ (l : ItemLine). IsListed l.item.insn) lines → AllByRecursion (λ (l : ItemLine). IsListed l.item.insn) (last_written lines)
 listed_stopped [] all = tt
 listed_stopped (l ∷ []) all = (all.0, tt)
@@ -180,7 +180,7 @@ sound_after s n (line.Slot draft stop) listed passed h = slot_sound s _ h refl (
 sound_after s n line.Stop listed passed h = stop_sound s h
 sound_after s n line.Close listed passed h = absurd passed.1.0
 
--- what lines come to
+-- What lines come to.
 ok_is : (s t : LooseParts) (r : Result LooseParts TextError) → r ≡ Ok s → r ≡ Ok t → s ≡ t
 ok_is s t r a b = cc
 
@@ -196,6 +196,6 @@ comes_sound s n (line ∷ lines) r t h is (inr (value, (says, passed), rest)) =
 start_sound : IsSound start
 start_sound = record { listed = tt; labels = tt; relations = tt; bytes = omega arith }
 
--- what the lines of a text say that are all taken
+-- What the lines of a text say that are all taken.
 pub all_sound : (text : List ℕ) (s : LooseParts) → AllSayBy loose_reading text s → IsSound s
 all_sound text s says = comes_sound start 1 (text_lines text) (Ok s) s start_sound refl says

@@ -55,7 +55,7 @@ stopped_packed lines (Some p) h = (
   h.1,
 )
 
--- the instructions with a stop after the last, where that one is changed
+-- The instructions with a stop after the last, where that one is changed.
 abbrev pub stopped_line : ItemLine → ItemLine
 stopped_line l =
     record { item = record { line = l.item.line; insn = l.item.insn; breaks = l.item.breaks; written = true }; target = l.target }
@@ -67,7 +67,7 @@ stopped_is (k ∷ []) (suc n) l some last is = absurd (omega (arith, last))
 stopped_is (k ∷ m ∷ ls) zero l some last is = absurd (omega (arith, last))
 stopped_is (k ∷ m ∷ ls) (suc n) l some last is = ap (λ xs. k ∷ xs) (stopped_is (m ∷ ls) n l (omega arith) (omega (arith, last)) is)
 
--- the instructions of lines, with one line more
+-- The instructions of lines, with one line more.
 pub items_with : (lines : List ItemLine) (l : ItemLine) → items_of (lines ++ l ∷ []) ≡ items_of lines ++ l.item ∷ []
 items_with [] l = refl
 items_with (k ∷ ks) l = ap (λ is. k.item ∷ is) (items_with ks l)

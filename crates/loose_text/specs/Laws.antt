@@ -6,23 +6,23 @@ use Rattle.asm_build.specs.declared.reason.TextError.TheVariants.{Fault}
 use Rattle.loose_text.specs.LooseReading.{ReadsLoose, HasLooseFault}
 use Rattle.loose_text.specs.LooseTexts.{Loose, IsLoose}
 
--- a text reads as at most one loose text
+-- A text reads as at most one loose text.
 abbrev pub OneLooseText : Type 0
 OneLooseText = (text : List ℕ) (s t : Loose) → ReadsLoose text s → ReadsLoose text t → s ≡ t
 
--- a text has at most one first fault
+-- A text has at most one first fault.
 abbrev pub OneLooseFault : Type 0
 OneLooseFault = (text : List ℕ) (e f : TextError) → HasLooseFault text e → HasLooseFault text f → e ≡ f
 
--- a text that reads as a loose text has none
+-- A text that reads as a loose text has none.
 abbrev pub NoLooseFaultWhereRead : Type 0
 NoLooseFaultWhereRead = (text : List ℕ) (t : Loose) (e : TextError) → ReadsLoose text t → HasLooseFault text e → ⊥
 
--- the text reads as a loose text, or a line and a reason are its first fault
+-- The text reads as a loose text, or a line and a reason are its first fault.
 abbrev pub LooseTextOrFault : List ℕ → Type 0
 LooseTextOrFault text =
     ((t : Loose) × ReadsLoose text t) ⊎ ((line : ℕ) × (reason : Reason) × HasLooseFault text (Fault line reason))
 
--- what a text reads as is a loose text
+-- What a text reads as is a loose text.
 abbrev pub ReadIsLoose : Type 0
 ReadIsLoose = (text : List ℕ) (t : Loose) → ReadsLoose text t → IsLoose t

@@ -30,23 +30,23 @@ pub record LooseParts : Type 0 where
   pub items : List ItemLine
   pub fresh : Bool
 
--- what no lines say
+-- What no lines say.
 abbrev pub start : LooseParts
 start = record { declared = outside.start; items = []; fresh = false }
 
 abbrev pub items_of : List ItemLine → List Item
 items_of lines = map (λ l. l.item) lines
 
--- the instruction of a draft
+-- The instruction of a draft.
 abbrev pub insn_of : Draft → Insn
 insn_of d =
     if d.bare then record { qp = d.insn.qp; op = lettered (bare_unit d.insn.op) d.insn.op } else d.insn
 
--- the item of a draft on the n-th line
+-- The item of a draft on the n-th line.
 abbrev pub item_of : Bool → ℕ → Draft → Bool → Item
 item_of fresh n draft stop = record { line = n; insn = insn_of draft; breaks = fresh; written = stop }
 
--- a stop after the last
+-- A stop after the last.
 abbrev pub last_written : List ItemLine → List ItemLine
 last_written [] = []
 last_written (l ∷ []) =
@@ -57,7 +57,7 @@ abbrev pub is_text : Section → Bool
 is_text section.Text = true
 is_text section.Data = false
 
--- a line separates the instructions round it: a label of text, or a relation, which stands in text
+-- A line separates the instructions round it: a label of text, or a relation, which stands in text.
 abbrev pub separates : Section → Line → Bool
 separates s (line.Label name) = is_text s
 separates s (line.Relation predicates) = true
@@ -91,7 +91,7 @@ MayStand s (line.Slot draft stop) = IsIn section.Text s.declared
 MayStand s line.Stop = IsIn section.Text s.declared × (1 ≤ length s.items)
 MayStand s value = outside.MayStand s.declared value
 
--- There is room for an instruction, in a bundle of the plain packing, and for data. (No line number counts for this.)
+-- There is room for an instruction, in a bundle of the plain packing, and for data. (No line number counts for this.).
 abbrev pub HasRoom : LooseParts → Line → Type 0
 HasRoom s (line.Slot draft stop) = length (plain_of (items_of s.items ++ item_of s.fresh 0 draft stop ∷ [])) ≤ BUNDLE_LIMIT
 HasRoom s value = outside.HasRoom s.declared value
@@ -105,7 +105,7 @@ value_stages s value =
     ∷ unless (HasRoom s value) reason.Limit
     ∷ []
 
--- the error of what the n-th line says: its first fault, or want of memory
+-- The error of what the n-th line says: its first fault, or want of memory.
 abbrev pub IsValueError : LooseParts → ℕ → Line → TextError → Type 0
 IsValueError s n value e =
     (e ≡ error.Memory) ⊎ ((why : Reason) × (e ≡ error.Fault n why) × IsFirstFault (value_stages s value) why)

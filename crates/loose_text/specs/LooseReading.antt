@@ -13,18 +13,18 @@ use Rattle.loose_text.specs.declared.item.ItemLine.{ItemLine}
 use Rattle.loose_text.specs.LooseParts.{LooseParts, start, items_of, after, value_stages}
 use Rattle.loose_text.specs.LooseTexts.{Loose, IsItemEntry}
 
--- the line of the first instruction whose name means nothing that fits, of which the first is the n-th
+-- The line of the first instruction whose name means nothing that fits, of which the first is the n-th.
 abbrev pub unnamed_item : Labels → ℕ → List ItemLine → Option ℕ
 unnamed_item labels n [] = None
 unnamed_item labels n (l ∷ ls) =
     if is_some (named labels n l.item.insn.op l.target) then unnamed_item labels (n + 1) ls else Some l.item.line
 
--- the first line with a name that means nothing that fits, or with a declared entry past the last
+-- The first line with a name that means nothing that fits, or with a declared entry past the last.
 abbrev pub name_fault : LooseParts → Option TextError
 name_fault s =
     earlier (unnamed_item s.declared.labels 0 s.items) (all_declared s.declared.labels [] s.declared.entries)
 
--- what the name of a target names
+-- What the name of a target names.
 abbrev pub target_of : Labels → Option (List ℕ) → Option Address
 target_of labels None = None
 target_of labels (Some name) = address_of labels name

@@ -22,11 +22,11 @@ pub record Loose : Type 0 where
   pub relations : List Relation
   pub bytes : List ℕ
 
--- a label of text or a relation line stands before the n-th instruction, and after the one before it
+-- A label of text or a relation line stands before the n-th instruction, and after the one before it.
 abbrev pub BreaksAt : List Item → ℕ → Type 0
 BreaksAt items n = IsSomeAnd (slice_get items n) (λ i. i.breaks ≡ true)
 
--- the instruction before the n-th is a call, which comes back to the n-th
+-- The instruction before the n-th is a call, which comes back to the n-th.
 abbrev pub IsAfterCall : List Item → ℕ → Type 0
 IsAfterCall items n = (1 ≤ n) × IsSomeAnd (slice_get items (n - 1)) (λ i. IsCall i.insn.op)
 
@@ -36,7 +36,7 @@ pub record IsItemEntry (items : List Item) (entries : List ℕ) (n : ℕ) : Type
   pub inside : n < length items
   pub kind : (n ≡ 0) ⊎ (Contains entries n ⊎ IsAfterCall items n)
 
--- what a name of the text may mean: an instruction that a label stands before, or a byte of data or their end
+-- What a name of the text may mean: an instruction that a label stands before, or a byte of data or their end.
 abbrev pub IsPlace : List Item → Address → Type 0
 IsPlace items (Bundle n) = BreaksAt items n
 IsPlace items (Byte at) = at ≤ DATA_LIMIT

@@ -10,14 +10,14 @@ use Rattle.asm_build.specs.declared.text_parts.RelationLine.{RelationLine}
 use Rattle.loose_text.specs.declared.item.ItemLine.{ItemLine}
 use Rattle.loose_text.specs.LooseParts.{LooseParts}
 
--- of each instruction and of the next one, whether a label of text or a relation line stands before it
+-- Of each instruction and of the next one, whether a label of text or a relation line stands before it.
 abbrev pub marks : LooseParts → List Bool
 marks s = map (λ (l : ItemLine). l.item.breaks) s.items ++ s.fresh ∷ []
 
 abbrev pub IsMarked : LooseParts → ℕ → Type 0
 IsMarked s n = get_or (marks s) n false ≡ true
 
--- what a label may name: a marked instruction, or a byte of data or their end
+-- What a label may name: a marked instruction, or a byte of data or their end.
 abbrev pub MayBeNamed : LooseParts → Address → Type 0
 MayBeNamed s (Bundle n) = IsMarked s n
 MayBeNamed s (Byte at) = at ≤ DATA_LIMIT

@@ -13,7 +13,7 @@ use Rattle.ia_meaning.specs.Writes.{resized, put}
 use Rattle.ia_meaning.specs.Frames.{marked_frame, return_fault}
 use Rattle.frame_shapes.specs.Faults.{kind_of, return_fault_within, ReturnFaultIsThat}
 
--- cells that end where the frame does are neither cut nor filled up
+-- Cells that end where the frame does are neither cut nor filled up.
 resized-whole : (n : ℕ) (cells : List Cell) → length cells ≡ n → resized n cells ≡ cells
 resized-whole zero [] h = refl
 resized-whole zero (c ∷ cells) h = absurd (omega arith)
@@ -23,11 +23,11 @@ resized-whole (suc n) (c ∷ cells) h = ap (λ x. c ∷ x) (resized-whole n cell
 pub renamed : (r : Registers) (f : FrameShape) → length r.cells ≡ f.base + f.sof → put (SetFrame Renamed f) r ≡ record r { frame = f }
 renamed r f h = rw (resized-whole (f.base + f.sof) r.cells h) refl
 
--- a field in a number's low bits
+-- A field in a number's low bits.
 low_field : (n above width low : ℕ) → n % 2 ^ (above + width + low) / 2 ^ low % 2 ^ width ≡ n / 2 ^ low % 2 ^ width
 low_field n above width low = ap (λ q. q % 2 ^ width) (field_of n (above + width) low) ∙ mod-mod-pow (n / 2 ^ low) above width
 
--- a frame's marker is in the low bits
+-- A frame's marker is in the low bits.
 marked_low : (base pfs : ℕ) → marked_frame base (pfs % 2 ^ 38) ≡ marked_frame base pfs
 unfolding marked_frame
 marked_low base pfs =

@@ -48,7 +48,7 @@ unfolding holds predicate_index
 holds_is r zero e = e
 holds_is r (suc p) e = refl
 
--- p0 stays 1 where another predicate is written
+-- p0 stays 1 where another predicate is written.
 pub one_kept : (f : FrameShape) (predicates : List Bool) (p : ℕ) (b : Bool) → (p ≢ 0) → get_or predicates 0 false ≡ true → get_or (set predicates (predicate_index f p) b) 0 false ≡ true
 one_kept f predicates p b h e = get_or-set_other predicates (predicate_index f p) 0 b false (λ same. place_some f p h (sym same)) ∙ e
 

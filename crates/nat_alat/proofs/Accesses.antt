@@ -5,16 +5,16 @@ use Rattle.ia_program.specs.Addresses.{data_base}
 use Rattle.ia_meaning.specs.Loads.{access_fault, loaded, stored, bytes_at, with_bytes}
 use Rattle.ia_meaning.proofs.DataAccesses.{is_access, length-with_bytes, other_byte}
 
--- the offset of an address
+-- The offset of an address.
 offset_of : (address at : ℕ) → address ≡ data_base + at → address - data_base ≡ at
 offset_of address at e = omega arith
 
--- what is read at the offset of an address is what is loaded
+-- What is read at the offset of an address is what is loaded.
 pub loaded_there : (address at size : ℕ) (bytes : List ℕ) → address ≡ data_base + at → bytes_at bytes at size ≡ loaded bytes address size
 unfolding loaded
 loaded_there address at size bytes e = ap (λ k. bytes_at bytes k size) (sym (offset_of address at e))
 
--- what is written at the offset of an address is what is stored
+-- What is written at the offset of an address is what is stored.
 pub stored_there : (address at size x : ℕ) (bytes : List ℕ) → address ≡ data_base + at → with_bytes bytes at size x ≡ stored bytes address size x
 unfolding stored
 stored_there address at size x bytes e = ap (λ k. with_bytes bytes k size x) (sym (offset_of address at e))
@@ -33,7 +33,7 @@ stored_whole address at size x len bytes old shown new e is same count written =
     ∙ ap (λ l. with_bytes l at size x) (same ∙ is)
     ∙ stored_there address at size x bytes e
 
--- the bytes that a store doesn't touch stay
+-- The bytes that a store doesn't touch stay.
 pub others_stay : (bytes : List ℕ) (address size x : ℕ) → access_fault bytes address size ≡ None
     → (length (stored bytes address size x) ≡ length bytes)
     × ((offset : ℕ) → (data_base + offset < address) ⊎ (address + size ≤ data_base + offset) → get_or (stored bytes address size x) offset 0 ≡ get_or bytes offset 0)

@@ -8,7 +8,7 @@ use Rattle.ia_meaning.specs.declared.state.Spot.{Spot}
 use Rattle.ia_meaning.specs.declared.state.AlatEntry.{AlatEntry}
 use Rattle.ia_meaning.specs.Loads.{is_spot, invalidated, entered, has_hit, has_entry}
 
--- two entries are equal
+-- Two entries are equal.
 abbrev pub is_entry : AlatEntry → AlatEntry → Bool
 is_entry d e = is_spot d.key e.key && (d.address == e.address) && (d.size == e.size)
 

@@ -10,7 +10,7 @@ use Rattle.std.proofs.Math.Pow.{pow-lt}
 use Rattle.ia_meaning.specs.Arithmetic.{bit}
 use Rattle.ia_meaning.specs.Steps.{with_bit}
 
--- a word by the bits below one, this one and those above it
+-- A word by the bits below one, this one and those above it.
 parts : (n k : ℕ) → n ≡ n % 2 ^ k + n / 2 ^ k % 2 * 2 ^ k + 2 ^ (k + 1) * (n / 2 ^ (k + 1))
 parts n k =
     let half : n / 2 ^ k / 2 ≡ n / 2 ^ (k + 1) = shr-shr n k 1 in
@@ -25,7 +25,7 @@ parts n k =
     let whole = shr_split n k in
     omega arith
 
--- the weight of a bit, as code makes it
+-- The weight of a bit, as code makes it.
 weight : (k : ℕ) → k ≤ 63 → 1 * 2 ^ k % 18446744073709551616 ≡ 2 ^ k
 weight k h =
     let below : 2 ^ k < 2 ^ 64 = pow-lt {i = k} {j = 64} (omega arith) in
@@ -50,14 +50,14 @@ with_zero n k e =
     let whole = parts n k in
     omega arith
 
--- the parts of a word with this bit, and of one without it
+-- The parts of a word with this bit, and of one without it.
 when_set : (n k : ℕ) → bit n k ≡ true → n ≡ n % 2 ^ k + 2 ^ k + 2 ^ (k + 1) * (n / 2 ^ (k + 1))
 when_set n k e = with_one n k (set_is_one (n / 2 ^ k % 2) e)
 
 when_clear : (n k : ℕ) → bit n k ≡ false → n ≡ n % 2 ^ k + 2 ^ (k + 1) * (n / 2 ^ (k + 1))
 when_clear n k e = with_zero n k (clear_is_zero (n / 2 ^ k % 2) (omega arith) e)
 
--- the bit is as given
+-- The bit is as given.
 same_bit : (n k : ℕ) (b : Bool) → bit n k ≡ b → n ≡ with_bit n k b
 same_bit n k true e = when_set n k e
 same_bit n k false e = let whole = when_clear n k e in omega arith
@@ -69,14 +69,14 @@ already n k false false e h = same_bit n k false (sym e)
 already n k true false e h = cc
 already n k false true e h = cc
 
--- the bit is set
+-- The bit is set.
 pub bit_set : (n k : ℕ) → k ≤ 63 → bit n k ≡ false → n + 1 * 2 ^ k % 18446744073709551616 ≡ with_bit n k true
 bit_set n k h e =
     let whole = when_clear n k e in
     let w = weight k h in
     omega arith
 
--- the bit is cleared
+-- The bit is cleared.
 pub bit_cleared : (n k : ℕ) → k ≤ 63 → bit n k ≡ true → n - 1 * 2 ^ k % 18446744073709551616 ≡ with_bit n k false
 bit_cleared n k h e =
     let whole = when_set n k e in
@@ -89,7 +89,7 @@ weight_within n k h e =
     let w = weight k h in
     omega arith
 
--- the word with the bit set is a word
+-- The word with the bit set is a word.
 pub sum_fits : (n k : ℕ) → n < 18446744073709551616 → k ≤ 63 → bit n k ≡ false → n + 1 * 2 ^ k % 18446744073709551616 < 18446744073709551616
 sum_fits n k word h e =
     let whole = when_clear n k e in

@@ -8,18 +8,18 @@ use Rattle.std.proofs.lemmas.List.{append_assoc, append-nil, drop_all, drop-drop
 use borrow.Rule.Slice.PartMut.{put_mid}
 use Rattle.ia_meaning.specs.Loads.{with_bytes}
 
--- a byte above the lowest is one of the rest
+-- A byte above the lowest is one of the rest.
 byte_of_rest : (k x : ℕ) → byte_at (suc k) x ≡ byte_at k (x / 256)
 byte_of_rest zero x = refl
 byte_of_rest (suc k) x =
     ap (λ y. y % 256) (ap (λ p. x / p) (pow-succ' 256 (suc k)) ∙ sym (div-div-eq-div-mul x 256 (256 ^ suc k)))
 
--- the bytes above the lowest are those of the rest
+-- The bytes above the lowest are those of the rest.
 bytes_of_rest : (j n x : ℕ) → bytes_low_first (suc j) n x ≡ bytes_low_first j n (x / 256)
 bytes_of_rest j zero x = refl
 bytes_of_rest j (suc n) x = rw (byte_of_rest j x, bytes_of_rest (suc j) n x) refl
 
--- the bytes before those of the number, these, and the bytes after them
+-- The bytes before those of the number, these, and the bytes after them.
 pub with_bytes_split : (n at x : ℕ) (bytes : List ℕ) → at + n ≤ length bytes
     → with_bytes bytes at n x ≡ take at bytes ++ (bytes_low_first 0 n x ++ drop (at + n) bytes)
 with_bytes_split zero at x bytes h =
@@ -30,7 +30,7 @@ with_bytes_split (suc n) at x bytes h =
     rest
     ∙ rw (take-suc-set bytes at (x % 256) (omega arith), drop-set-lt (suc at + n) bytes at (x % 256) (omega arith), append_assoc, e, bytes_of_rest 0 n x) refl
 
--- the bytes of a number are those of its low bits
+-- The bytes of a number are those of its low bits.
 low_bits : (n at x : ℕ) (bytes : List ℕ) → with_bytes bytes at n (x % 2 ^ (8 * n)) ≡ with_bytes bytes at n x
 low_bits zero at x bytes = refl
 low_bits (suc n) at x bytes =
@@ -40,7 +40,7 @@ low_bits (suc n) at x bytes =
     let high : x % 2 ^ (8 * suc n) / 256 ≡ x / 256 % 2 ^ (8 * n) = omega arith in
     rw (low, high) (low_bits n (suc at) (x / 256) (set bytes at (x % 256)))
 
--- the low bytes of a number, written at the front of what follows an offset
+-- The low bytes of a number, written at the front of what follows an offset.
 pub written_there : (n at x y : ℕ) (bytes new : List ℕ) → at + n ≤ length bytes → y ≡ x % 2 ^ (8 * n)
     → new ≡ bytes_low_first 0 n y ++ drop n (take (length bytes - at) (drop at bytes))
     → put_mid at (length bytes - at) bytes new ≡ with_bytes bytes at n x

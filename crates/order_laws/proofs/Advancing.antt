@@ -44,7 +44,7 @@ unfolding holds
 holds_at t zero h = absurd (omega arith)
 holds_at t (suc g) h = refl
 
--- where no write is of UNAT, it may be set before or after
+-- Where no write is of UNAT, it may be set before or after.
 unat_apply : (ws : List RegisterWrite) (r : Registers) (x : ℕ) → ((w : RegisterWrite) → Mem w ws → location w ≡ TheUnat → ⊥) → record (apply ws r) { unat = x } ≡ apply ws (record r { unat = x })
 unat_apply [] r x h = refl
 unat_apply (SetUnat v ∷ ws) r x h = absurd (h (SetUnat v) (inl refl) refl)
@@ -63,7 +63,7 @@ location_cases TheEc TheEc = inl refl
 location_cases TheFrame TheFrame = inl refl
 location_cases s t = inr (λ q. cc)
 
--- two plain kinds clash but for two of or, or two of and
+-- Two plain kinds clash but for two of or, or two of and.
 plain_pairs : (a b : Kind) → IsPlain a → IsPlain b → (¬ IsExcepted a b) ⊎ (((a ≡ OrWrite) × (b ≡ OrWrite)) ⊎ ((a ≡ AndWrite) × (b ≡ AndWrite)))
 plain_pairs OrWrite OrWrite p q = inr (inl (refl, refl))
 plain_pairs AndWrite AndWrite p q = inr (inr (refl, refl))
@@ -127,7 +127,7 @@ plain_of j a h na w = go a.kind refl w
     go Spill e w = absurd (true≢false (sym w))
     go Fill e w = absurd (true≢false (sym w))
 
--- the accesses at the place of an instruction
+-- The accesses at the place of an instruction.
 pub accesses_here : (p : Program) (place : Place) (j : Insn) → insn_at p.bundles place ≡ Some j → accesses_at (over_program p) place ≡ accesses j
 unfolding accesses_at
 accesses_here p place j e = ap accesses_in e
@@ -135,11 +135,11 @@ accesses_here p place j e = ap accesses_in e
 pub has_here : (p : Program) (place : Place) (j : Insn) (a : Access) → insn_at p.bundles place ≡ Some j → HasAccess j a → Contains (accesses_at (over_program p) place) a
 has_here p place j a e h = subst (λ l. Contains l a) (sym (accesses_here p place j e)) ((accesses_listed j a).1 h)
 
--- the rotating part of a frame lies in it
+-- The rotating part of a frame lies in it.
 pub rotating_fits : {f : FrameShape} → IsFrame f → 8 * f.sor ≤ f.sof
 rotating_fits h = h.rotating
 
--- what the laws of accesses say of an outcome, at a view whose qualifying predicate is the state's
+-- What the laws of accesses say of an outcome, at a view whose qualifying predicate is the state's.
 pub record IsLawful (j : Insn) (base s v : Registers) (o : Outcome) : Type 0 where
   pub frame : naming_frame (insn_action j) v.frame ≡ base.frame
   pub covered : Each (IsCovered j.qp (insn_action j) v) o.writes
@@ -177,7 +177,7 @@ module _ (p : Program) (past : List Place) (base : Registers) (ws : List Registe
       let f = guarded j a h in
       record { on = guard_now a.guard f g; named = guard_frame a.guard f; range = guard_range a.guard f }
 
-  -- the state after the slot
+  -- The state after the slot.
   unat_quiet : (x : ℕ × Bool) → o.spills ≡ Some x → (w : RegisterWrite) → Mem w ws → location w ≡ TheUnat → ⊥
   unat_quiet x e w m t =
       let h = law.spills x e in
@@ -205,11 +205,11 @@ module _ (p : Program) (past : List Place) (base : Registers) (ws : List Registe
   plain_by : (w : RegisterWrite) (c : Covered w) → IsPlain c.access.kind
   plain_by w c = plain_of j c.access c.has na c.writing
 
-  -- a slot that writes it may write it
+  -- A slot that writes it may write it.
   may_write : (g : ℕ) (w : RegisterWrite) (c : Covered w) → (c.access.resource ≡ Pr g) ⊎ ((c.access.resource ≡ Cfm) × (is_rotating g ≡ true)) → may_write_guard g (accesses j) ≡ true
   may_write g w c h = guards_written j c.access g c.has (change_of c.access.kind (plain_by w c)) h
 
-  -- a guard that the slot may not write stays 1
+  -- A guard that the slot may not write stays 1.
   frame_keeps : (g : ℕ) → may_write_guard g (accesses j) ≡ false → is_rotating g ≡ true → S'.frame ≡ S.frame
   frame_keeps g n r = go (same_apply TheFrame o.writes (spilled o.spills S))
     where
@@ -261,7 +261,7 @@ module _ (p : Program) (past : List Place) (base : Registers) (ws : List Registe
   may_here : (g : ℕ) → may_write_guard g (accesses j) ≡ true → may_write_guard g (accesses_at (over_program p) here) ≡ true
   may_here g m = ap (may_write_guard g) (accesses_here p here j at) ∙ m
 
-  -- a trace is one step longer
+  -- A trace is one step longer.
   longer : (i : Place) (g : ℕ) → Mem i past → IsStillOne base S g ⊎ MayBeWrittenSince p past i g → (b : Bool) → may_write_guard g (accesses j) ≡ b → IsStillOne base S' g ⊎ MayBeWrittenSince p Past i g
   longer i g m (inr x) b e = inr (record { place = x.place; inside = inr x.inside; since = x.since; writes = x.writes })
   longer i g m (inl a) true e = inr (record { place = here; inside = inl refl; since = λ z. not_before_itself here (before_trans here i here z (later i m)); writes = may_here g e })
@@ -283,7 +283,7 @@ module _ (p : Program) (past : List Place) (base : Registers) (ws : List Registe
   origin_new : (w : RegisterWrite) → Covered w → EarlierWrite p Past base S' w
   origin_new w c = record { access = c.access; trace = trace_new c.access c.has (alive_now c.access c.has c.guarded); plain = plain_by w c; range = range_of w c; names = names_of w c; puts = c.puts }
 
-  -- two writes of the group
+  -- Two writes of the group.
   cross : (w x : RegisterWrite) → Mem w ws → Mem x o.writes → FitsBeside w x
   cross w x m n = go (location_cases (location w) (location x))
     where
@@ -318,7 +318,7 @@ module _ (p : Program) (past : List Place) (base : Registers) (ws : List Registe
       let k = law.spills x e in
       inr (record { access = access_to Unat Spill j.qp; trace = trace_new (access_to Unat Spill j.qp) k.0 (alive_now (access_to Unat Spill j.qp) k.0 k.1); kind = refl; resource = refl })
 
-  -- the group is under way one slot further
+  -- The group is under way one slot further.
   pub advance : IsGathering p Past base (ws ++ o.writes) (unat_after o.spills u)
   advance = record {
     frame = way.frame;

@@ -39,7 +39,7 @@ unat_of : (g : Gathered) → TouchedBy TheUnat g.writes ⊎ SameAt TheUnat (stat
 unat_of g (inl (w, m, t)) = inr (w, contains_mem w g.writes m, t)
 unat_of g (inr e) = inl (sym e)
 
--- where the next slot does the same, all agrees
+-- Where the next slot does the same, all agrees.
 agrees_here : (p : Program) (g : Gathered) (past : List Place) (w : Walk) → IsGroupOnWalk p g past w → ((j : Insn) → insn_at p.bundles g.place ≡ Some j → slot_outcome p g (Some j) ≡ outcome_of p (state_of g) j) → Agrees p g (state_of g)
 agrees_here p g past w on same = record {
   registers = λ ws e.
@@ -52,13 +52,13 @@ agrees_here p g past w on same = record {
   unat = unat_of g (same_apply TheUnat g.writes (record g.base { unat = g.unat }));
 }
 
--- what is shown of n slots further, behind the first
+-- What is shown of n slots further, behind the first.
 abbrev RestAgrees : Program → ℕ → Type 0
 RestAgrees p n =
     (g : Gathered) (past : List Place) (w : Walk) (h : Gathered) → IsGroupOnWalk p g past w → (i : Place) → Contains (earlier_in_group p w) i
     → slots_on n p false g ≡ Some h → Agrees p h (steps_on n p (state_of g))
 
--- one slot, and n behind it
+-- One slot, and n behind it.
 module _ (p : Program) (program : IsProgram p) (n : ℕ) (rest : RestAgrees p n) (first : Bool) (g : Gathered) (past : List Place) (w : Walk) (h : Gathered) (on : IsGroupOnWalk p g past w) (o : Outcome)
     (step : seq_step p (state_of g) ≡ step_by p (state_of g) o o.next) (joins : Joins p g past o (gathers first g o)) where
   abbrev To : Gathered
@@ -80,11 +80,11 @@ module _ (p : Program) (program : IsProgram p) (n : ℕ) (rest : RestAgrees p n)
   pub slot_agrees : if_some (on_by p first g o o.next) (slots_on n p false) ≡ Some h → Agrees p h (steps_on (suc n) p (state_of g))
   slot_agrees q = by_way o.next refl q
 
--- the group with n more slots, from the next one on
+-- The group with n more slots, from the next one on.
 abbrev From : Program → ℕ → Bool → Gathered → Option Insn → Option Gathered
 From p n begins g x = if_some (on_by p (begins && allocates x) g (slot_outcome p g x) (slot_outcome p g x).next) (slots_on n p false)
 
--- the next slot of a group is no `alloc`
+-- The next slot of a group is no `alloc`.
 module _ (p : Program) (program : IsProgram p) (free : HasNoViolation p) where
   same_here : (g : Gathered) (past : List Place) (w : Walk) → IsGroupOnWalk p g past w → (i : Place) → Contains (earlier_in_group p w) i → (j : Insn) → insn_at p.bundles g.place ≡ Some j → slot_outcome p g (Some j) ≡ outcome_of p (state_of g) j
   same_here g past w on i c j at =
@@ -103,7 +103,7 @@ module _ (p : Program) (program : IsProgram p) (free : HasNoViolation p) where
           (plain_step p program free g past w on j at na) (plain_joins p program free g past w on j at na)
           (sym (ap (From p n false g) at) ∙ e)
 
-  -- the first slot may be an `alloc`
+  -- The first slot may be an `alloc`.
   first_same : (s : State) (w : Walk) → IsKnown p s w → (j : Insn) → insn_at p.bundles s.place ≡ Some j → slot_outcome p (gathered_from s) (Some j) ≡ outcome_of p s j
   first_same s w known j at = by_action (is_alloc (insn_action j)) refl
     where

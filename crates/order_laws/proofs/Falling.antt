@@ -21,7 +21,7 @@ use Rattle.predicate_rel.specs.Edges.{HasEdge, edge_of, edge_end, may_fall, pair
 use Rattle.flow_facts.specs.Graphs.{Graph, over_program, over_sequence, InsnSequence, HasSequenceEdge, sequence_insn, sequence_next, sequence_end_of, sequence_past, insn_in, next_in, IsPlaceIn, IsEdgeIn, pairs_past_in}
 use Rattle.flow_facts.specs.Walks.{Walk, begins, goes_on, IsWalkIn, end_of, facts_in, group_since}
 
--- the order of places goes on
+-- The order of places goes on.
 pub before_trans : (a b c : Place) → IsBefore a b → IsBefore b c → IsBefore a c
 before_trans a b c (inl h) (inl k) = inl (omega arith)
 before_trans a b c (inl h) (inr k) = inl (omega (arith, k.0))
@@ -38,7 +38,7 @@ pub none_before_first : (a : Place) → IsBefore a (first_of 0) → ⊥
 none_before_first a (inl h) = omega arith
 none_before_first a (inr h) = omega (arith, h.1)
 
--- of two places one comes before the other, or they are one
+-- Of two places one comes before the other, or they are one.
 pub place_cases : (a b : Place) → IsBefore a b ⊎ ((a ≡ b) ⊎ IsBefore b a)
 place_cases a b = of (cases_lt a.bundle b.bundle) (cases_eq a.bundle b.bundle) (cases_lt a.slot b.slot) (cases_eq a.slot b.slot)
   where
@@ -49,23 +49,23 @@ place_cases a b = of (cases_lt a.bundle b.bundle) (cases_eq a.bundle b.bundle) (
     of (inr more) (inl same) (inr high) (inl equal) = inr (inl (same_place a b same equal))
     of (inr more) (inl same) (inr high) (inr apart) = inr (inr (inr (sym same, omega arith)))
 
--- a later place has a higher number
+-- A later place has a higher number.
 pub number_rises : (a b : Place) → a.slot < 3 → IsBefore a b → place_number a < place_number b
 number_rises a b small (inl h) = omega arith
 number_rises a b small (inr h) = omega (arith, h.0, h.1)
 
--- what is known past a place is what is known past the instruction there
+-- What is known past a place is what is known past the instruction there.
 pub past_is : (g : Graph) (place : Place) (e : Edge) (f : Pairs) → pairs_past_in g place e f ≡ pairs_past_insn (insn_in g place) e f
 unfolding pairs_past sequence_past
 past_is (over_program p) place e f = refl
 past_is (over_sequence sequence) place e f = refl
 
--- an edge begins at a place
+-- An edge begins at a place.
 pub edge_inside : (g : Graph) (i : Place) (e : Edge) (j : Place) → IsEdgeIn g i e j → IsPlaceIn g i
 edge_inside (over_program p) i e j edge = edge.inside
 edge_inside (over_sequence sequence) i e j edge = edge.inside
 
--- the place holds an instruction past which control may fall, and there is a next place
+-- The place holds an instruction past which control may fall, and there is a next place.
 pub record IsFall (g : Graph) (i j : Place) : Type 0 where
   pub insn : Insn
   pub here : insn_in g i ≡ Some insn
@@ -91,12 +91,12 @@ row_fall sequence i j e = of (sequence_insn sequence.insns i) refl e.leads
     of None here h = absurd cc
     of (Some insn) here h = let c = chosen (may_fall insn) (sequence_next sequence.insns i) j h in record { insn = insn; here = here; may = c.0; next = c.1 }
 
--- what a fall says of where it begins
+-- What a fall says of where it begins.
 pub fall_is : (g : Graph) (i j : Place) → IsEdgeIn g i Falls j → IsFall g i j
 fall_is (over_program p) i j e = program_fall p i j e
 fall_is (over_sequence sequence) i j e = row_fall sequence i j e
 
--- the place of the next instruction of a sequence
+-- The place of the next instruction of a sequence.
 sequence_next_is : (insns : List Insn) (i j : Place) → sequence_next insns i ≡ Some j → (i.bundle + 1 < length insns) × (first_of (i.bundle + 1) ≡ j)
 unfolding sequence_next
 sequence_next_is insns i j e = of (nat_lt (i.bundle + 1) (length insns)) refl e
@@ -105,7 +105,7 @@ sequence_next_is insns i j e = of (nat_lt (i.bundle + 1) (length insns)) refl e
     of true t h = (grind (arith, nat_tests), same_Some _ _ h)
     of false t h = absurd cc
 
--- an instruction of a sequence stands at slot 0
+-- An instruction of a sequence stands at slot 0.
 row_slot : (insns : List Insn) (i : Place) → IsSome (sequence_insn insns i) → i.slot ≡ 0
 unfolding sequence_insn
 row_slot insns i is = of (i.slot == 0) refl is
@@ -122,7 +122,7 @@ sequence_place insns n l = elim (slice_get_cases insns n).1 [
   | inr (beyond, is) ↦ absurd (omega arith)
 ]
 
--- the next place is a place
+-- The next place is a place.
 pub next_place : (g : Graph) (i j : Place) → next_in g i ≡ Some j → IsPlaceIn g j
 next_place (over_program p) i j e = let n = next_is p.bundles i j e in n.is
 next_place (over_sequence sequence) i j e =
@@ -134,7 +134,7 @@ pub next_after : (g : Graph) (i j : Place) → next_in g i ≡ Some j → IsBefo
 next_after (over_program p) i j e = let n = next_is p.bundles i j e in n.after
 next_after (over_sequence sequence) i j e = let n = sequence_next_is sequence.insns i j e in subst (IsBefore i) n.1 (inl (omega arith))
 
--- the slot of a place is 0 to 2
+-- The slot of a place is 0 to 2.
 pub slot_below : (g : Graph) (i : Place) → IsPlaceIn g i → i.slot < 3
 slot_below (over_program p) i is = slot_small p.bundles i is
 slot_below (over_sequence sequence) i is = let zero = row_slot sequence.insns i is in omega (arith, zero)
@@ -153,7 +153,7 @@ program_before bundles a b next is_a is_b e f = of (place_cases a b)
     of (inr (inl h)) = h
     of (inr (inr h)) = absurd (of_b.first a is_a h of_a.after)
 
--- two places that have one next place are one
+-- Two places that have one next place are one.
 pub same_before : (g : Graph) (a b next : Place) → IsPlaceIn g a → IsPlaceIn g b → next_in g a ≡ Some next → next_in g b ≡ Some next → a ≡ b
 same_before (over_program p) a b next is_a is_b e f = program_before p.bundles a b next is_a is_b e f
 same_before (over_sequence sequence) a b next is_a is_b e f =
@@ -162,7 +162,7 @@ same_before (over_sequence sequence) a b next is_a is_b e f =
     let bundle : a.bundle + 1 ≡ b.bundle + 1 = ap (λ (k : Place). k.bundle) (m.1 ∙ sym n.1) in
     same_place a b (omega (arith, bundle)) (row_slot sequence.insns a is_a ∙ sym (row_slot sequence.insns b is_b))
 
--- control falls from a place where it may to the next one
+-- Control falls from a place where it may to the next one.
 pub fall_edge : (g : Graph) (i j : Place) (insn : Insn) → insn_in g i ≡ Some insn → may_fall insn ≡ true → next_in g i ≡ Some j → IsEdgeIn g i Falls j
 unfolding edge_end
 fall_edge (over_program p) i j insn here may next = record {
@@ -176,16 +176,16 @@ fall_edge (over_sequence sequence) i j insn here may next = record {
   lands = next_place (over_sequence sequence) i j next;
 }
 
--- a fall leads to the next place
+-- A fall leads to the next place.
 pub falls_next : (g : Graph) (i j : Place) → IsEdgeIn g i Falls j → next_in g i ≡ Some j
 falls_next g i j e = let f = fall_is g i j e in f.next
 
--- control falls to a place from one place at most
+-- Control falls to a place from one place at most.
 pub one_before : (g : Graph) (a b next : Place) → IsEdgeIn g a Falls next → IsEdgeIn g b Falls next → a ≡ b
 one_before g a b next e f =
     same_before g a b next (edge_inside g a Falls next e) (edge_inside g b Falls next f) (falls_next g a next e) (falls_next g b next f)
 
--- control falls to a later place
+-- Control falls to a later place.
 pub falls_up : (g : Graph) (i j : Place) → IsEdgeIn g i Falls j → IsBefore i j
 falls_up g i j e = next_after g i j (falls_next g i j e)
 
@@ -198,7 +198,7 @@ pub record ComesFrom (g : Graph) (has_stop : Place → Bool) (w : Walk) : Type 0
   pub facts : facts_in g w ≡ pairs_past_in g (end_of before) Falls (facts_in g before)
   pub group : group_since has_stop w ≡ end_of before ∷ group_since has_stop before
 
--- the last step of such a walk was a fall within the group
+-- The last step of such a walk was a fall within the group.
 pub comes_from : (g : Graph) (has_stop : Place → Bool) (w : Walk) (i : Place) → IsWalkIn g w → Contains (group_since has_stop w) i → ComesFrom g has_stop w
 comes_from g has_stop (begins bundle) i is c = absurd (not_in_none i c)
 comes_from g has_stop (goes_on w Taken place) i is c = absurd (not_in_none i c)
@@ -212,7 +212,7 @@ comes_from g has_stop (goes_on w Falls place) i is c = by_stop (has_stop (end_of
 pub falls_group : (has_stop : Place → Bool) (w : Walk) (place : Place) → has_stop (end_of w) ≡ false → group_since has_stop (goes_on w Falls place) ≡ end_of w ∷ group_since has_stop w
 falls_group has_stop w place e = rw e refl
 
--- the earlier places of a walk's group come before its last one
+-- The earlier places of a walk's group come before its last one.
 pub group_before : (g : Graph) (has_stop : Place → Bool) (w : Walk) (i : Place) → IsWalkIn g w → Contains (group_since has_stop w) i → IsBefore i (end_of w)
 group_before g has_stop (begins bundle) i is c = absurd (not_in_none i c)
 group_before g has_stop (goes_on w Taken place) i is c = absurd (not_in_none i c)

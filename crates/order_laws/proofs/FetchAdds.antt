@@ -36,7 +36,7 @@ use Rattle.order_laws.specs.OrderExamples.{cell}
 use Rattle.order_laws.proofs.GatheredSlots.{IsOn, with_slot, by_slots, no_more}
 use Rattle.order_laws.proofs.TargetsStand.{targets_stand}
 
--- what one fetch-and-add does
+-- What one fetch-and-add does.
 record Added (size address : ℕ) (inc : ℤ) (frame : FrameShape) (r1 : ℕ) (m : Memory) (o : Outcome) : Type 0 where
   pub target : Spot
   pub names : spot frame r1 ≡ Some target
@@ -47,7 +47,7 @@ never : (kind : FaultKind) (next : Option Place) (m : Memory) → IsOn (settled 
 never kind None m on = on
 never kind (Some q) m on = on
 
--- a sum is in the range of its bytes
+-- A sum is in the range of its bytes.
 sum_fits : (size : ℕ) (inc : ℤ) (old x : ℕ) → exchanged size (Some inc) old x % 2 ^ (8 * size) ≡ exchanged size (Some inc) old 0
 sum_fits size inc old x = mod-eq_of_lt (mod_below (old + twos 64 inc) (2 ^ (8 * size)) (pow_pos (8 * size)))
 
@@ -72,7 +72,7 @@ module _ (s : Site) (insn : Insn) (r : Registers) (m : Memory) (unat size addres
       (λ _. subst (λ f. ActCases Q s f r m unat) (sym action) (λ kind next on. absurd (never kind next m on), λ d b x names is _ _ _ access. made d b x names is access))
       (λ off. absurd (true≢false (sym (holds_zero r) ∙ ap (holds r) (sym guard) ∙ off)))
 
--- a slot that is one
+-- A slot that is one.
 slot_adds : (p : Program) (x : GatheredSlot) (size address : ℕ) (inc : ℤ) (add : IsFetchAdd size address inc x) → IsOn (done_by p x).next
     → Added size address inc x.before.base.frame add.r1 x.before.memory (done_by p x)
 slot_adds p x size address inc add on =
@@ -92,11 +92,11 @@ memory_gathered : (b : Bool) (g : Gathered) (o : Outcome) (to : Place) → (gath
 memory_gathered true g o to = refl
 memory_gathered false g o to = refl
 
--- what is there, as a number
+-- What is there, as a number.
 abbrev There : Memory → ℕ → ℕ → ℕ
 There m address size = loaded m.bytes address size
 
--- what is left to be added behind one more slot
+-- What is left to be added behind one more slot.
 record Left (size address : ℕ) (incs : List ℤ) (g : Gathered) (o : Outcome) (rest : List GatheredSlot) : Type 0 where
   pub incs_left : List ℤ
   pub adds : AreFetchAdds size address incs_left rest

@@ -48,7 +48,7 @@ use Rattle.ia_meaning.proofs.Views.{view_plain}
 use Rattle.order_laws.proofs.Advancing.{has_here, rotating_fits}
 use Rattle.order_laws.proofs.GroupOrders.{added, IsGroupOnWalk, Joins, From, slot_is, plain_step, plain_joins, rest_is, ordered, frames_append}
 
--- a group before its first slot
+-- A group before its first slot.
 begun_way : (p : Program) (r : Registers) → IsFrame r.frame → length r.cells ≡ r.frame.base + r.frame.sof → IsGathering p [] r [] r.unat
 begun_way p r f c = record { frame = f; cells = c; origins = tt; fits = tt; inside = tt; unat = inl refl }
 
@@ -59,12 +59,12 @@ begun_on p s w known = record {
   way = let r = known.state.registers in begun_way p s.registers r.frame r.cell_count;
 }
 
--- an `alloc` that falls off does nothing
+-- An `alloc` that falls off does nothing.
 settled_allocated : (new : FrameShape) (n : Option Place) (m : Memory) (way : NextWay) (o : Outcome) → IsAllocated new o → IsAllocated new (settled n m way o)
 settled_allocated new None m next.Falls o h = record { spills = refl; ways = inl refl }
 settled_allocated new n m way o h = h
 
--- the new frame has the rename bases of the old one, and its base
+-- The new frame has the rename bases of the old one, and its base.
 new_pr : (f : Action) (old : FrameShape) → (naming_frame f old).rrbs.pr ≡ old.rrbs.pr
 new_pr (action.Allocate r1 sof sol sor) old = refl
 new_pr f old = refl
@@ -73,7 +73,7 @@ no_branch : (f : Action) → is_alloc f ≡ true → is_branch f ≡ false
 no_branch (action.Allocate r1 sof sol sor) e = refl
 no_branch f e = absurd (true≢false (sym e))
 
--- a write of a register leaves the frame and the predicates
+-- A write of a register leaves the frame and the predicates.
 set_spot_frame : (d : Spot) (c : Cell) (r : Registers) → (apply (set_spot d c []) r).frame ≡ r.frame
 set_spot_frame (Static zero) c r = refl
 set_spot_frame (Static (suc n)) c r = refl
@@ -105,7 +105,7 @@ each_from_mem : {X : Type 0} (P Q : X → Type 0) (xs : List X) → Each P xs �
 each_from_mem P Q [] h f = tt
 each_from_mem P Q (x ∷ xs) h f = (f x (inl refl) h.0, each_from_mem P Q xs h.1 (λ y m k. f y (inr m) k))
 
--- an `alloc` in first place
+-- An `alloc` in first place.
 module _ (p : Program) (program : IsProgram p) (s : State) (w : Walk) (known : IsKnown p s w) (j : Insn) (at : insn_at p.bundles s.place ≡ Some j) (al : is_alloc (insn_action j) ≡ true) where
   abbrev R : Registers
   R = s.registers
@@ -231,7 +231,7 @@ module _ (p : Program) (program : IsProgram p) (s : State) (w : Walk) (known : I
   unat_stays : unat_after O.spills R.unat ≡ R.unat
   unat_stays = ap (λ q. unat_after q R.unat) may.spills
 
-  -- the frame write and the others are all writes
+  -- The frame write and the others are all writes.
   split : (ws : List RegisterWrite) → frame_ahead ws ++ after_frame ws ≡ ws
   split [] = refl
   split (SetFrame cause f ∷ ws) = refl

@@ -17,13 +17,13 @@ use Rattle.ia_meaning.specs.Steps.{place_after}
 use Rattle.ia_meaning.specs.ParallelGroups.{Gathered, gathered_from, slot_outcome, gathers, GatheredGroup, gathered_by, gathered_within}
 use Rattle.order_laws.specs.GroupSlots.{GatheredSlot, slot_here, and_slot, slots_within, IsSame, Leads, SlotsLead}
 
--- the run goes on
+-- The run goes on.
 abbrev pub IsOn : Next → Type 0
 IsOn Falls = ⊤
 IsOn (Goes bundle) = ⊤
 IsOn way = ⊥
 
--- the group with a slot more
+-- The group with a slot more.
 abbrev pub with_slot : Program → Bool → Gathered → Option Insn → Place → Gathered
 with_slot p begins g insn to = gathers (begins && allocates insn) g (slot_outcome p g insn) to
 
@@ -70,7 +70,7 @@ module _ (p : Program) (P : Bool → Gathered → List GatheredSlot → Gathered
       by_way later (Breaks imm) w = none begins g
       by_way later (Faults kind) w = none begins g
 
--- no slot stands in an empty list
+-- No slot stands in an empty list.
 pub no_more : (xs ys : List GatheredSlot) (x : GatheredSlot) → [] ≡ xs ++ x ∷ ys → ⊥
 no_more [] ys x e = cc
 no_more (z ∷ xs) ys x e = cc
@@ -80,7 +80,7 @@ no_more (z ∷ xs) ys x e = cc
 same : (g : Gathered) → IsSame g g
 same g = record { base = refl; frames = refl; writes = refl; memory = refl; unat = refl }
 
--- a place without an instruction changes nothing
+-- A place without an instruction changes nothing.
 none_there : (p : Program) (begins : Bool) (g : Gathered) (to : Place) → IsSame g (with_slot p begins g None to)
 none_there p true g to = record { base = refl; frames = refl; writes = append-nil g.writes; memory = refl; unat = refl }
 none_there p false g to = record { base = refl; frames = refl; writes = append-nil g.writes; memory = refl; unat = refl }

@@ -30,34 +30,34 @@ use Rattle.order_laws.specs.OrderLaws.{FitTogether, IsCellBelow}
 use Rattle.order_laws.proofs.Untouched.{SameAt, Mem, each_mem, Touches, TouchedBy, same_apply}
 use Rattle.resource_sets.proofs.Locations.{resource_once}
 
--- the writes, made over the group's start with the UNAT that goes from slot to slot
+-- The writes, made over the group's start with the UNAT that goes from slot to slot.
 abbrev pub joined : Registers → List RegisterWrite → ℕ → Registers
 joined base ws u = apply ws (record base { unat = u })
 
 abbrev pub access_to : Resource → Kind → ℕ → Access
 access_to q k g = record { resource = q; kind = k; guard = g }
 
--- the guard is 1 still, in a frame that names it as at the group's start
+-- The guard is 1 still, in a frame that names it as at the group's start.
 pub record IsStillOne (base s : Registers) (g : ℕ) : Type 0 where
   pub on : holds s g ≡ true
   pub named : is_rotating g ≡ true → s.frame ≡ base.frame
   pub range : (g ≡ 0) ⊎ IsInRange (Pr g)
 
--- a slot of the group from i on may write the guard
+-- A slot of the group from i on may write the guard.
 pub record MayBeWrittenSince (p : Program) (past : List Place) (i : Place) (g : ℕ) : Type 0 where
   pub place : Place
   pub inside : Mem place past
   pub since : ¬ IsBefore place i
   pub writes : may_write_guard g (accesses_at (over_program p) place) ≡ true
 
--- an access of an earlier slot whose guard was 1, and is so still or may have been written since
+-- An access of an earlier slot whose guard was 1, and is so still or may have been written since.
 pub record EarlierAccess (p : Program) (past : List Place) (base s : Registers) (a : Access) : Type 0 where
   pub place : Place
   pub inside : Mem place past
   pub has : Contains (accesses_at (over_program p) place) a
   pub alive : IsStillOne base s a.guard ⊎ MayBeWrittenSince p past place a.guard
 
--- a write of registers, that of an `alloc`'s frame apart
+-- A write of registers, that of an `alloc`'s frame apart.
 abbrev pub IsPlain : Kind → Type 0
 IsPlain Write = ⊤
 IsPlain LoopWrite = ⊤
@@ -72,7 +72,7 @@ change_of OrWrite h = tt
 change_of AndWrite h = tt
 change_of k h = absurd h
 
--- an earlier write, and the access that it lies on
+-- An earlier write, and the access that it lies on.
 pub record EarlierWrite (p : Program) (past : List Place) (base s : Registers) (w : RegisterWrite) : Type 0 where
   pub access : Access
   pub trace : EarlierAccess p past base s access
@@ -81,7 +81,7 @@ pub record EarlierWrite (p : Program) (past : List Place) (base s : Registers) (
   pub names : location_of base.frame access.resource ≡ Some (location w)
   pub puts : MayPut access.kind w
 
--- an earlier spill
+-- An earlier spill.
 pub record Spilled (p : Program) (past : List Place) (base s : Registers) : Type 0 where
   pub access : Access
   pub trace : EarlierAccess p past base s access
@@ -111,7 +111,7 @@ no_clash p past base s j a b clean t h e k x g = go t.alive
     go (inl al) = clean t.place a b t.inside t.has h e k x g (inl al.on)
     go (inr m) = clean t.place a b t.inside t.has h e k x g (inr m)
 
--- kinds that clash with every plain write
+-- Kinds that clash with every plain write.
 abbrev pub IsStrict : Kind → Type 0
 IsStrict Read = ⊤
 IsStrict Fill = ⊤
@@ -163,7 +163,7 @@ module _ (p : Program) (past : List Place) (base : Registers) (ws : List Registe
   abbrev S : Registers
   S = joined base ws u
 
-  -- what the slot touches by a strict access under a guard that is 1, no earlier write has touched
+  -- What the slot touches by a strict access under a guard that is 1, no earlier write has touched.
   pub no_touch : (b : Access) → HasAccess j b → IsStrict b.kind → IsInRange b.resource → holds S b.guard ≡ true → (t : Location) → location_of base.frame b.resource ≡ Some t → (w : RegisterWrite) → Mem w ws → location w ≡ t → ⊥
   no_touch b h k r g t e w m q =
       let o : EarlierWrite p past base S w = each_mem (EarlierWrite p past base S) w ws way.origins m in
@@ -206,7 +206,7 @@ module _ (p : Program) (past : List Place) (base : Registers) (ws : List Registe
       sym (same_plain (access_to (Pr (suc n)) Read g) h tt i e (PredicateAt (predicate_index base.frame (suc n))) refl (λ w x. x))
       ∙ ap (λ t. get_or S.predicates t false) (place_same base.frame S.frame (suc n) (λ q. sym (frame_same Read 0 (f q) tt (holds_zero S))))
 
-  -- no earlier slot spilled where UNAT is read
+  -- No earlier slot spilled where UNAT is read.
   unspilled : (g : ℕ) → HasAccess j (access_to Unat Read g) → holds S g ≡ true → (base.unat ≡ u) ⊎ Spilled p past base S → base.unat ≡ u
   unspilled g h e (inl x) = x
   unspilled g h e (inr x) =
@@ -216,7 +216,7 @@ module _ (p : Program) (past : List Place) (base : Registers) (ws : List Registe
   pub fill_same : (k : Kind) (g : ℕ) → HasAccess j (access_to Unat k g) → IsStrict k → holds S g ≡ true → u ≡ S.unat
   fill_same k g h i e = sym (same_plain (access_to Unat k g) h i tt e TheUnat refl (λ w x. x))
 
-  -- what is read as most instructions read is as at the group's start
+  -- What is read as most instructions read is as at the group's start.
   pub read_same : (q : Resource) (g : ℕ) → HasAccess j (access_to q Read g) → IsInRange q → holds S g ≡ true → (is_framed q ≡ true → HasAccess j frame_read) → SameIn q base S
   read_same (Gr r) g h i e f = gr_same r g h e f
   read_same (Pr n) g h i e f = pr_same n g h i e f

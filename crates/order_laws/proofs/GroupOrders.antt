@@ -46,11 +46,11 @@ use Rattle.order_laws.proofs.Advancing.{IsLawful, advance, after_joined}
 use Rattle.order_laws.proofs.Falling.{group_before}
 use Rattle.order_laws.proofs.NoClashes.{clean_at, no_alloc}
 
--- the state that the slots so far leave, one by one
+-- The state that the slots so far leave, one by one.
 abbrev pub state_of : Gathered → State
 state_of g = record { registers = joined g.base g.writes g.unat; memory = g.memory; place = g.place }
 
--- the frame changes so far
+-- The frame changes so far.
 abbrev pub frames_of : Gathered → List (ℕ × ℕ)
 frames_of g = g.frames ++ frame_changes g.writes
 
@@ -63,11 +63,11 @@ frames_append (SetFrame Resized f ∷ xs) ys = ap (λ t. (f.base, f.base + f.sof
 frames_append (SetFrame Renamed f ∷ xs) ys = frames_append xs ys
 frames_append (w ∷ xs) ys = frames_append xs ys
 
--- the group with its writes in the order of a code
+-- The group with its writes in the order of a code.
 abbrev pub ordered : List ℕ → GatheredGroup → Group
 ordered code x = made x (arranged code x.all.writes)
 
--- what its slots leave one by one
+-- What its slots leave one by one.
 abbrev left_by : GatheredGroup → Group
 left_by x = record { state = state_of x.all; last = x.last; slots = x.slots; how = x.how; end = x.end; frames = frames_of x.all }
 
@@ -89,13 +89,13 @@ pub record Joins (p : Program) (g : Gathered) (past : List Place) (o : Outcome) 
   pub state : (q : Place) → record { registers = registers_after o (state_of g).registers; memory = o.memory; place = q } ≡ state_of (after q)
   pub frames : (q : Place) → frames_of g ++ frame_changes o.writes ≡ frames_of (after q)
 
--- what is shown of the rest of a group, which some slot came before
+-- What is shown of the rest of a group, which some slot came before.
 abbrev pub RestIs : Program → List ℕ → ℕ → Type 0
 RestIs p code most =
     (g : Gathered) (past : List Place) (w : Walk) → IsGroupOnWalk p g past w → (i : Place) → Contains (earlier_in_group p w) i
     → ordered code (gathered_within most p false g) ≡ added (frames_of g) (group_within most p (state_of g))
 
--- one slot of a group that goes on after it
+-- One slot of a group that goes on after it.
 module _ (p : Program) (program : IsProgram p) (first : Bool) (g : Gathered) (past : List Place) (w : Walk) (on : IsGroupOnWalk p g past w) (o : Outcome)
     (step : seq_step p (state_of g) ≡ step_by p (state_of g) o o.next) (joins : Joins p g past o (gathers first g o)) where
   abbrev S : State
@@ -104,7 +104,7 @@ module _ (p : Program) (program : IsProgram p) (first : Bool) (g : Gathered) (pa
   abbrev Next : Place
   Next = place_after g.place (next_of p.bundles g.place)
 
-  -- the next slot of the group
+  -- The next slot of the group.
   pub on_next : o.next ≡ next.Falls → is_stopped p.bundles g.place ≡ false → IsGroupOnWalk p (gathers first g o Next) (g.place ∷ past) (walk_after p S w (seq_step p S)) × Contains (earlier_in_group p (walk_after p S w (seq_step p S))) g.place
   on_next e n = (
     record {
@@ -134,7 +134,7 @@ module _ (p : Program) (program : IsProgram p) (first : Bool) (g : Gathered) (pa
       later i (inl e) = in_head g.place i (earlier_in_group p w) (sym e)
       later i (inr m) = in_tail g.place i (earlier_in_group p w) (on.inside i m)
 
--- one slot, and the rest
+-- One slot, and the rest.
 module _ (p : Program) (program : IsProgram p) (code : List ℕ) (most : ℕ) (rest : RestIs p code most) (first : Bool) (g : Gathered) (past : List Place) (w : Walk) (on : IsGroupOnWalk p g past w) (o : Outcome)
     (step : seq_step p (state_of g) ≡ step_by p (state_of g) o o.next) (joins : Joins p g past o (gathers first g o)) where
   abbrev Here : State
@@ -143,7 +143,7 @@ module _ (p : Program) (program : IsProgram p) (code : List ℕ) (most : ℕ) (r
   abbrev To : Place
   To = place_after g.place (next_of p.bundles g.place)
 
-  -- by a step that goes so
+  -- By a step that goes so.
   abbrev By : Step → Group
   By x = added (frames_of g) (group_by p Here x x.how (group_within most p x.state))
 
@@ -191,12 +191,12 @@ module _ (p : Program) (program : IsProgram p) (code : List ℕ) (most : ℕ) (r
   pub slot_is : ordered code (gathered_by p first g o o.next Rest) ≡ added (frames_of g) (group_within (suc most) p Here)
   slot_is = by_way o.next refl ∙ ap By (sym step)
 
--- the law of an outcome that may fall off
+-- The law of an outcome that may fall off.
 law_settled : (j : Insn) (base s v : Registers) (n : Option Place) (m : Memory) (way : NextWay) (o : Outcome) → IsLawful j base s v o → IsLawful j base s v (settled n m way o)
 law_settled j base s v None m next.Falls o h = record { frame = h.frame; covered = tt; apart = tt; spills = λ x q. absurd (cc); guard = h.guard }
 law_settled j base s v n m way o h = h
 
--- a slot that is no `alloc` of a group under way
+-- A slot that is no `alloc` of a group under way.
 module _ (p : Program) (program : IsProgram p) (free : HasNoViolation p) (g : Gathered) (past : List Place) (w : Walk) (on : IsGroupOnWalk p g past w) (j : Insn) (at : insn_at p.bundles g.place ≡ Some j) (na : is_alloc (insn_action j) ≡ false) where
   abbrev G : State
   G = state_of g
@@ -243,7 +243,7 @@ module _ (p : Program) (program : IsProgram p) (free : HasNoViolation p) (g : Ga
     frames = λ q. append_assoc g.frames (frame_changes g.writes) (frame_changes O.writes) ∙ ap (λ f. g.frames ++ f) (sym (frames_append g.writes O.writes));
   }
 
--- the rest of a group, from the next slot on
+-- The rest of a group, from the next slot on.
 abbrev pub From : Program → List ℕ → ℕ → Bool → Gathered → Option Insn → Group
 From p code most begins g x =
     ordered code (gathered_by p (begins && allocates x) g (slot_outcome p g x) (slot_outcome p g x).next

@@ -56,7 +56,7 @@ module _ (p : Program) (free : HasNoViolation p) (s : State) (w : Walk) (known :
         });
       })
 
-  -- what is known is true, and what is known not to be written is not
+  -- What is known is true, and what is known not to be written is not.
   unexcused : (past : List Place) (i : Place) (a b : Access) → ((k : Place) → Mem k past → Contains (earlier_in_group p w) k) → holds s.registers b.guard ≡ true → (holds s.registers a.guard ≡ true) ⊎ MayBeWrittenSince p past i a.guard → ¬ IsExcused (over_program p) (is_stopped p.bundles) w i a.guard b.guard
   unexcused past i a b inside on (inl h) x = let k = known.apart in k.apart a.guard b.guard x.known h on
   unexcused past i a b inside on (inr m) x = true≢false (sym m.writes ∙ x.unwritten m.place (inside m.place m.inside) m.since)

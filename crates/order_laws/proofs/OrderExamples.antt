@@ -56,7 +56,7 @@ pub spills_and_fills : SpillsAndFills
 unfolding look spot holds next_of insn_at is_stopped access_fault loaded stored untouched
 spills_and_fills = (refl, refl, refl)
 
--- a run may start from the zero state with p6
+-- A run may start from the zero state with p6.
 with_p6_is_start : IsStart later_writes (with_p6 later_writes)
 with_p6_is_start = record {
   state = record {

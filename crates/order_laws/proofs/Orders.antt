@@ -66,7 +66,7 @@ fit_left x [] n h = tt
 fit_left x (y ∷ ys) zero h = h.1
 fit_left x (y ∷ ys) (suc n) h = (each_left (FitsBeside x) y ys n h.0, fit_left y ys n h.1)
 
--- the cells keep their number but under a frame
+-- The cells keep their number but under a frame.
 length_put : (w : Write) (r : Registers) → IsNoFrame w → length (put w r).cells ≡ length r.cells
 length_put (SetCell n c) r h = length-set r.cells n c
 length_put (SetFrame cause f) r h = absurd (h refl)
@@ -104,7 +104,7 @@ swap_two : (v w : Write) (r : Registers) → FitsBeside v w → IsReady r (v ∷
 swap_two v w r (inl ne) h = commute v w r ne h
 swap_two v w r (inr e) h = rw e.1 refl
 
--- an item that is item_at from the middle and made first
+-- An item that is item_at from the middle and made first.
 pub front : (x : Write) (xs : List Write) (n : ℕ) (r : Registers) → FitTogether (x ∷ xs) → IsReady r (x ∷ xs) → apply (item_at x xs n ∷ others x xs n) r ≡ apply (x ∷ xs) r
 front x [] n r f h = refl
 front x (y ∷ ys) zero r f h = refl
@@ -122,11 +122,11 @@ orders_within (suc n) code (x ∷ xs) r f h =
     k : ℕ
     k = head_of code % length (x ∷ xs)
 
--- every order that a code can name gives the state of program order
+-- Every order that a code can name gives the state of program order.
 pub orders : (code : List ℕ) (ws : List Write) (r : Registers) → FitTogether ws → IsReady r ws → apply (arranged code ws) r ≡ apply ws r
 orders code ws r f h = orders_within (length ws) code ws r f h
 
--- the list of frames does not depend on the order either
+-- The list of frames does not depend on the order either.
 frames_cons : (x : Write) (us vs : List Write) → frame_changes us ≡ frame_changes vs → frame_changes (x ∷ us) ≡ frame_changes (x ∷ vs)
 frames_cons (SetFrame Resized f) us vs e = ap (λ t. (f.base, f.base + f.sof) ∷ t) e
 frames_cons (SetFrame Renamed f) us vs e = e

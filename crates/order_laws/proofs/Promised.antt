@@ -18,7 +18,7 @@ nothing_apart : (r : Registers) → AreNeverBothOne no_pairs r
 unfolding no_pairs
 nothing_apart r = record { apart = λ x y m h k. absurd (cc) }
 
--- the second of a pair is 1 where it is so as the pair is written
+-- The second of a pair is 1 where it is so as the pair is written.
 other_holds : (r : Registers) (x y : ℕ) → holds r y ≡ true → holds r (other_of x y) ≡ true
 other_holds r x y h = of (x == y)
   where
@@ -45,7 +45,7 @@ same_holds r a b x y same h k = of (parts a b x y same)
     of (inl (e, f)) = (ap (holds r) (sym e) ∙ h, ap (holds r) (sym f) ∙ k)
     of (inr (e, f)) = (ap (holds r) (sym f) ∙ k, ap (holds r) (sym e) ∙ h)
 
--- one pair more, of two predicates that aren't both 1
+-- One pair more, of two predicates that aren't both 1.
 pair_apart : (f : Pairs) (r : Registers) (a b : ℕ) → (holds r a ≡ true → holds r b ≡ true → ⊥) → AreNeverBothOne f r → AreNeverBothOne (with_pair f a b) r
 unfolding with_pair
 pair_apart f r a b apart known = record { apart = λ x y m h k. of x y (f x y) refl m h k }
@@ -62,7 +62,7 @@ record IsOfStatic (relation : Relation) : Type 0 where
   apart : relation.p < relation.q
   static : relation.q ≤ 15
 
--- the relations of a bundle are of such predicates where all are
+-- The relations of a bundle are of such predicates where all are.
 each_static : (bundle : ℕ) (rs : List Relation) → ((n : ℕ) → n < length rs → IsOfStatic (relation_at rs n)) → Each IsOfStatic (relations_at rs bundle)
 each_static bundle [] all = tt
 each_static bundle (r ∷ rs) all = kept (r.bundle == bundle) (all zero (omega arith)) (each_static bundle rs (λ n inside. all (suc n) (omega arith)))
@@ -71,14 +71,14 @@ each_static bundle (r ∷ rs) all = kept (r.bundle == bundle) (all zero (omega a
     kept true first rest = (first, rest)
     kept false first rest = rest
 
--- such a predicate is what stands at its place among the first sixteen
+-- Such a predicate is what stands at its place among the first sixteen.
 static_holds : (r : Registers) (p : ℕ) → 1 ≤ p → p ≤ 15 → holds r p ≡ get_or (take 16 r.predicates) p false
 static_holds r p some static =
     holds_at_place r p (λ e. absurd (omega arith))
     ∙ ap (λ n. get_or r.predicates n false) (low_place r.frame p (omega arith))
     ∙ sym (get_or-take 16 r.predicates p false (omega arith))
 
--- where the first sixteen break no relation the pairs of all are apart
+-- Where the first sixteen break no relation the pairs of all are apart.
 relations_apart : (f : Pairs) (r : Registers) (rs : List Relation) → Each IsOfStatic rs → list_any (are_both_one (take 16 r.predicates)) rs ≡ false → AreNeverBothOne f r → AreNeverBothOne (with_relations f rs) r
 relations_apart f r [] static none known = known
 relations_apart f r (x ∷ rs) (static, later) none known =

@@ -24,11 +24,11 @@ pub next_group_ordered : NextGroupIsOrdered
 next_group_ordered n p code s program free start =
     let k = runs_are_known n p s program start in group_ordered p code (seq_run p n s).state k.0 program free k.1
 
--- a walk to a state on which what is known is true
+-- A walk to a state on which what is known is true.
 abbrev Reached : Program → State → Type 0
 Reached p s = (w : Walk) × IsKnown p s w
 
--- a group that doesn't end the run leaves such a state
+-- A group that doesn't end the run leaves such a state.
 group_reached : (most : ℕ) (p : Program) (s : State) (w : Walk) → IsProgram p → IsKnown p s w → (group_within most p s).end ≡ None → Reached p (group_within most p s).state
 group_reached zero p s w program known e = (w, known)
 group_reached (suc most) p s w program known e = go (seq_step p s).how refl (λ k. group_reached most p (seq_step p s).state (walk_after p s w (seq_step p s)) program k) e
@@ -40,7 +40,7 @@ group_reached (suc most) p s w program known e = go (seq_step p s).how refl (λ 
     go (Some h) is again e = (walk_after p s w (seq_step p s), steps_known p s w program known e)
     go None is again e = again (steps_known p s w program known (step_goes_on p s is)) e
 
--- a group of the run in the order of its code, and slot by slot
+-- A group of the run in the order of its code, and slot by slot.
 abbrev Par : Program → List (List ℕ) → ℕ → State → Group
 Par p codes number s = par_group p (code_of codes number) s
 

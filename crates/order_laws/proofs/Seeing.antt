@@ -35,25 +35,25 @@ use Rattle.order_laws.proofs.Untouched.{SameAt, Mem, each_mem, TouchedBy, same_a
 use Rattle.resource_sets.proofs.Locations.{predicate_at}
 use Rattle.order_laws.proofs.Gathering.{joined, access_to, IsGathering, ClashesWithNone, EarlierWrite, no_clash, change_of, strict_clash, frame_same, fill_same, pr_same, read_same}
 
--- UNAT apart, the same writes leave the same
+-- UNAT apart, the same writes leave the same.
 pub apply_unat : (ws : List RegisterWrite) (r : Registers) (u : ℕ) → (x : ℕ) × (apply ws (record r { unat = u }) ≡ record (apply ws r) { unat = x })
 apply_unat [] r u = (u, refl)
 apply_unat (SetUnat v ∷ ws) r u = apply_unat ws (record r { unat = v }) v
 apply_unat (SetStatic n c ∷ ws) r u = apply_unat ws (put (SetStatic n c) r) u
 apply_unat (w ∷ ws) r u = apply_unat ws (put w r) u
 
--- what is seen is as earlier slots left it
+-- What is seen is as earlier slots left it.
 seen_here : {X : Type 0} (sees : ℕ → Bool) (k : ℕ) (base now : List X) (d : X) → length now ≡ length base → sees k ≡ true → get_or (seen_in sees 0 base now) k d ≡ get_or now k d
 seen_here sees k base now d e h =
     let same : 0 + k ≡ k = omega arith in
     seen_at sees 0 k base now d e ∙ ap (λ i. if sees i then get_or now k d else get_or base k d) same ∙ ap (λ b. if b then get_or now k d else get_or base k d) h
 
--- a choice of two that are the same
+-- A choice of two that are the same.
 same_choices : {X : Type 0} (b : Bool) (x y z : X) → x ≡ z → y ≡ z → (if b then x else y) ≡ z
 same_choices true x y z e f = e
 same_choices false x y z e f = f
 
--- lists with the same first items
+-- Lists with the same first items.
 take_same : {X : Type 0} (d : X) (n : ℕ) (xs ys : List X) → length xs ≡ length ys → ((k : ℕ) → k < n → get_or xs k d ≡ get_or ys k d) → take n xs ≡ take n ys
 take_same d n xs ys e same = ext_get_or d (take n xs) (take n ys) (length-take n xs ∙ ap (min n) e ∙ sym (length-take n ys))
     (λ k h.
@@ -63,7 +63,7 @@ take_same d n xs ys e same = ext_get_or d (take n xs) (take n ys) (length-take n
 sees_itself : (n : ℕ) → (n == n) ≡ true
 sees_itself n = grind (arith, nat_tests)
 
--- an item that isn't seen is the start's
+-- An item that isn't seen is the start's.
 seen_other : {X : Type 0} (sees : ℕ → Bool) (n k : ℕ) (base now : List X) (d : X) → sees (n + k) ≡ false → get_or (seen_in sees n base now) k d ≡ get_or base k d
 seen_other sees n k [] now d e = refl
 seen_other sees n k (x ∷ base) [] d e = refl
@@ -91,7 +91,7 @@ all_see_the_start insn now base = record {
   ec = refl;
 }
 
--- the qualifying predicate of a branch is as earlier slots left it
+-- The qualifying predicate of a branch is as earlier slots left it.
 branch_holds : (insn : Insn) (now base s : Registers) → is_branch (insn_action insn) ≡ true → length now.predicates ≡ length base.predicates → now.predicates ≡ s.predicates
     → (is_rotating insn.qp ≡ true → base.frame ≡ s.frame) → (q : ℕ) → insn.qp ≡ q → holds (view insn now base) q ≡ holds s q
 unfolding holds
@@ -104,7 +104,7 @@ branch_holds insn now base s b l m f (suc n) is =
     ∙ ap (λ (t : List Bool). get_or t place false) m
     ∙ ap (λ t. get_or s.predicates t false) (place_same base.frame s.frame (suc n) (λ r. f (ap is_rotating is ∙ r)))
 
--- kinds that write
+-- Kinds that write.
 abbrev IsWriteKind : Kind → Type 0
 IsWriteKind Read = ⊥
 IsWriteKind BranchRead = ⊥
@@ -173,7 +173,7 @@ module _ (p : Program) (past : List Place) (base : Registers) (ws : List Registe
   guard_now g (inl e) h = rw e (holds_zero S)
   guard_now g (inr e) h = ap (holds S) e ∙ sym qp_same ∙ sym (ap (holds V) e) ∙ h
 
-  -- what it reads as most instructions do
+  -- What it reads as most instructions do.
   reads : (a : Access) → HasNamedAccess j a → a.kind ≡ Read → holds S a.guard ≡ true → SameIn a.resource base S
   reads a h k g =
       let r = reg a h in
@@ -191,7 +191,7 @@ module _ (p : Program) (past : List Place) (base : Registers) (ws : List Registe
   pfs_now : sees_pfs (insn_action j) ≡ true → V.pfs ≡ S.pfs
   pfs_now e = ap (λ b. if b then N.pfs else base.pfs) e ∙ sym (ap (λ (r : Registers). r.pfs) apart)
 
-  -- what a branch goes by
+  -- What a branch goes by.
   goes_by : (f : Action) (q : Resource) → insn_action j ≡ f → GoesBy f q → SameIn q V S
   goes_by (action.JumpIndirect b2) q is e = rw e (branch_now b2 (ap (λ f. sees_branch f b2) is ∙ sees_itself b2))
   goes_by (action.Call b1 (Indirect b2)) q is e = rw e (branch_now b2 (ap (λ f. sees_branch f b2) is ∙ sees_itself b2))
@@ -245,7 +245,7 @@ module _ (p : Program) (past : List Place) (base : Registers) (ws : List Registe
     agrees : AgreesOn V S u S.unat a.kind a.resource
     agrees = agrees_by V S u S.unat a.kind a.resource by_read by_branch_read by_fill (by_frame a.kind refl)
 
-  -- where it reads each predicate, all places of predicates are as they were
+  -- Where it reads each predicate, all places of predicates are as they were.
   predicates_same : holds V j.qp ≡ true → ((n : ℕ) → 1 ≤ n → n < 64 → HasAccess j (access_to (Pr n) Read j.qp)) → base.predicates ≡ S.predicates
   predicates_same on h =
       ext_get_or false base.predicates S.predicates (sym (length_predicates ws (record base { unat = u })))
@@ -263,7 +263,7 @@ module _ (p : Program) (past : List Place) (base : Registers) (ws : List Registe
       go n (inl x) = absurd (touched n x.0 x.1 x.2)
       go n (inr x) = x
 
-  -- nothing is written at the place of p0
+  -- Nothing is written at the place of p0.
   first_kept : SameAt (PredicateAt 0) S (record base { unat = u })
   first_kept = go (same_apply (PredicateAt 0) ws (record base { unat = u }))
     where
@@ -280,7 +280,7 @@ module _ (p : Program) (past : List Place) (base : Registers) (ws : List Registe
       go (inl x) = absurd (untouched x.0 x.1 x.2)
       go (inr x) = x
 
-  -- an indirect branch sees the first sixteen predicates as earlier slots left them
+  -- An indirect branch sees the first sixteen predicates as earlier slots left them.
   statics_now : is_indirect (insn_action j) ≡ true → take 16 V.predicates ≡ take 16 S.predicates
   statics_now e = take_same false 16 V.predicates S.predicates (length_seen (sees_predicate j base.frame) 0 base.predicates N.predicates ∙ sym (length_predicates ws (record base { unat = u }))) each
     where

@@ -25,7 +25,7 @@ each_all : {X : Type 0} (P : X → Type 0) (xs : List X) → ((x : X) → Mem x 
 each_all P [] h = tt
 each_all P (x ∷ xs) h = (h x (inl refl), each_all P xs (λ y m. h y (inr m)))
 
--- a static register is one of 32
+-- A static register is one of 32.
 static_general : (f : FrameShape) (r n : ℕ) → spot_location (spot f r) ≡ Some (StaticAt n) → n < 32
 unfolding spot
 static_general f r n e = grind arith

@@ -40,7 +40,7 @@ pub each_map : {X : Type 0} (P Q : X → Type 0) → ((x : X) → P x → Q x) �
 each_map P Q f [] h = tt
 each_map P Q f (x ∷ xs) h = (f x h.0, each_map P Q f xs h.1)
 
--- a write that changes what stands at a target: the target's own, and for a cell that of the frame
+-- A write that changes what stands at a target: the target's own, and for a cell that of the frame.
 abbrev pub Touches : Location → Write → Type 0
 Touches (CellAt n) w = (location w ≡ CellAt n) ⊎ (location w ≡ TheFrame)
 Touches t w = location w ≡ t
@@ -77,7 +77,7 @@ pub same_refl : (t : Location) (r : Registers) → SameAt t r r
 same_refl (StaticAt n) r = refl
 same_refl _ r = refl
 
--- a location that some write touches, or that all of them leave
+-- A location that some write touches, or that all of them leave.
 abbrev pub TouchedBy : Location → List Write → Type 0
 TouchedBy t ws = (w : Write) × Mem w ws × Touches t w
 

@@ -33,7 +33,7 @@ use Rattle.predicate_rel.proofs.StepEdges.{goes_along}
 use Rattle.predicate_rel.proofs.StepTruth.{keeps_apart}
 use Rattle.order_laws.proofs.Promised.{promised_apart}
 
--- an indirect branch has no taken edge
+-- An indirect branch has no taken edge.
 no_target : (f : Action) (bundle : ℕ) (to : Place) → is_indirect f ≡ true → target_at bundle (displacement_of f) ≡ Some to → ⊥
 no_target (JumpIndirect b2) bundle to h e = cc
 no_target (Call b1 (Indirect b2)) bundle to h e = cc
@@ -51,7 +51,7 @@ landed p from to (Some insn) (Some how.Taken) here l edge =
     let leads : edge_of p.bundles from (Some insn) Taken ≡ Some to = sym (ap (λ (o : Option Insn). edge_of p.bundles from o Taken) here) ∙ edge.leads in
     no_target (insn_action insn) from.bundle to l leads
 
--- one that lands on an entry is found to land
+-- One that lands on an entry is found to land.
 lands_by : (o : Option Insn) (h : Option How) → IsSomeAnd o IsIndirect → h ≡ Some how.Taken → is_landing o h ≡ true
 lands_by None h i e = absurd i
 lands_by (Some insn) h i e = rw e i
@@ -93,7 +93,7 @@ module _ (p : Program) (s : State) (w : Walk) (program : IsProgram p) (known : I
 pub steps_known : StepsKnown
 steps_known p s w program known goes = step_known p s w program known goes
 
--- a step that ends the run leaves its state
+-- A step that ends the run leaves its state.
 ended_by : (p : Program) (s : State) (o : Outcome) (way : Next) (e : End) → (step_by p s o way).end ≡ Some e → (step_by p s o way).state ≡ s
 ended_by p s o next.Falls e h = absurd (cc)
 ended_by p s o (next.Goes bundle) e h = absurd (cc)
@@ -108,7 +108,7 @@ ended_stays p s e h = of (insn_at p.bundles s.place) h
     of None h = refl
     of (Some insn) h = ended_by p s (outcome_of p s insn) (outcome_of p s insn).next e h
 
--- what holds of a trace
+-- What holds of a trace.
 abbrev IsTraceKnown : Program → Trace → Type 0
 IsTraceKnown p t = IsKnown p t.state t.walk
 
@@ -138,7 +138,7 @@ start_known p s program start = record {
 pub known_on_runs : KnownOnRuns
 known_on_runs n p s program start = traces_known n p (trace_begun s) program (start_known p s program start)
 
--- the group of a walk after a step
+-- The group of a walk after a step.
 fallen_group : (p : Program) (w : Walk) (place to : Place) (stopped : Bool) → end_of w ≡ place → is_stopped p.bundles place ≡ stopped
     → earlier_in_group p (goes_on w (edge_by (how_falling stopped)) to) ≡ group_after (how_falling stopped) place (earlier_in_group p w)
 fallen_group p w place to true at e = let s : is_stopped p.bundles (end_of w) ≡ true = ap (is_stopped p.bundles) at ∙ e in rw s refl
@@ -170,7 +170,7 @@ walks_group p s w program known goes = of (insn_here p s known.state.place)
         subst (λ (x : Step). earlier_in_group p (walk_after p s w x) ≡ group_after x.how s.place (earlier_in_group p w)) (sym same)
         (group_by_way p s w insn (outcome_of p s insn) (outcome_of p s insn).next known.ends.ends here (subst (λ (x : Step). x.end ≡ None) same goes))
 
--- a trace further and further
+-- A trace further and further.
 further : (a b : ℕ) (p : Program) (t : Trace) → trace_further (a + b) p t ≡ trace_further b p (trace_further a p t)
 further zero b p t = ap (λ n. trace_further n p t) (let e : 0 + b ≡ b = omega arith in e)
 further (suc a) b p t = ap (λ n. trace_further n p t) (let e : suc a + b ≡ suc (a + b) = omega arith in e) ∙ further a b p (trace_on p t)
@@ -208,7 +208,7 @@ group_comes (suc most) p t none = of (seq_step p t.state).how refl (λ goes. gro
 abbrev Seq : Program → ℕ → State → Group
 Seq p number s = seq_group p s
 
--- the state of a run
+-- The state of a run.
 run_comes : (n number : ℕ) (p : Program) (t : Trace) → t.end ≡ None → (k : ℕ) × ((trace_further k p t).state ≡ (run_from (Seq p) number n t.state).state)
 run_comes zero number p t none = (0, refl)
 run_comes (suc n) number p t none = of (seq_group p t.state).end (group_comes RUN_LIMIT p t none) (λ t goes. run_comes n (suc number) p t goes)
@@ -224,7 +224,7 @@ run_comes (suc n) number p t none = of (seq_group p t.state).end (group_comes RU
 pub run_is_traced : RunIsTraced
 run_is_traced n p s = run_comes n 1 p (trace_begun s) refl
 
--- a state of a run is one of the program
+-- A state of a run is one of the program.
 pub runs_keep_state : RunsKeepState
 runs_keep_state n p s program start =
     let k = run_is_traced n p s in
@@ -238,7 +238,7 @@ runs_are_known n p s program start =
     let t = traced k.0 p s in
     (t.walk, subst (λ x. IsKnown p x t.walk) k.1 (known_on_runs k.0 p s program start))
 
--- what is true of a larger set is true of a smaller one
+-- What is true of a larger set is true of a smaller one.
 within_apart : (f g : Pairs) (r : Registers) → IsWithin f g → AreNeverBothOne g r → AreNeverBothOne f r
 within_apart f g r w a = record { apart = λ x y m h k. a.apart x y (w.each x y m) h k }
 

@@ -40,7 +40,7 @@ RestIsGathered p most =
     (g : Gathered) (past : List Place) (w : Walk) → IsGroupOnWalk p g past w → (i : Place) → Contains (earlier_in_group p w) i
     → IsGathered p (gathered_within most p false g).all
 
--- the group with one slot more, and the rest
+-- The group with one slot more, and the rest.
 abbrev From : Program → ℕ → Bool → Gathered → Option Insn → GatheredGroup
 From p most begins g x =
     gathered_by p (begins && allocates x) g (slot_outcome p g x) (slot_outcome p g x).next
@@ -118,7 +118,7 @@ mem_right : {X : Type 0} (v : X) (xs ys : List X) → Mem v ys → Mem v (xs ++ 
 mem_right v [] ys m = m
 mem_right v (x ∷ xs) ys m = inr (mem_right v xs ys m)
 
--- the slot is the next one, or one of the rest
+-- The slot is the next one, or one of the rest.
 record IsNext (g : Gathered) (slot : Option Insn) (x : GatheredSlot) : Type 0 where
   pub insn : slot ≡ Some x.insn
   pub before : g ≡ x.before
@@ -133,7 +133,7 @@ next_or_later g (Some insn) rest [] ys x e =
     inl (record { insn = ap (λ (z : GatheredSlot). Some z.insn) same; before = ap (λ (z : GatheredSlot). z.before) same })
 next_or_later g (Some insn) rest (z ∷ zs) ys x e = inr (zs, let tail : rest ≡ zs ++ x ∷ ys = cc in tail)
 
--- the slots write these, where no `alloc` begins the group
+-- The slots write these, where no `alloc` begins the group.
 plain_writes : (b : Bool) (g : Gathered) (o : Outcome) (to : Place) → b ≡ false → (gathers b g o to).writes ≡ g.writes ++ o.writes
 plain_writes b g o to h = subst (λ c. (gathers c g o to).writes ≡ g.writes ++ o.writes) (sym h) refl
 

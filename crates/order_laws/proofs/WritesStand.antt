@@ -15,7 +15,7 @@ use Rattle.order_laws.specs.Targets.{Stands}
 use Rattle.order_laws.proofs.Orders.{orders}
 use Rattle.order_laws.proofs.Untouched.{Mem}
 
--- an item of a list goes to its end
+-- An item of a list goes to its end.
 goes_last : {X : Type 0} (x : X) (xs : List X) → Mem x xs → (us : List X) × IsPermutation xs (us ++ x ∷ [])
 goes_last x [] m = absurd m
 goes_last x (y ∷ ys) (inl e) = (ys, subst (λ z. IsPermutation (z ∷ ys) (ys ++ x ∷ [])) e (IsPermutation-sym (ys ++ x ∷ []) (x ∷ ys) (IsPermutation-to_front ys x)))
@@ -36,7 +36,7 @@ statics_kept : (ws : List Write) (r : Registers) → length (apply ws r).statics
 statics_kept [] r = refl
 statics_kept (w ∷ ws) r = statics_kept ws (put w r) ∙ statics_put w r
 
--- there are as many cells as the frame has
+-- There are as many cells as the frame has.
 abbrev IsWhole : Registers → Type 0
 IsWhole r = length r.cells ≡ r.frame.base + r.frame.sof
 
@@ -49,7 +49,7 @@ whole_kept : (ws : List Write) (r : Registers) → IsWhole r → IsWhole (apply 
 whole_kept [] r whole = whole
 whole_kept (w ∷ ws) r whole = whole_kept ws (put w r) (whole_put w r whole)
 
--- a static register that is written is below a count
+-- A static register that is written is below a count.
 abbrev pub IsStaticOf : ℕ → Write → Type 0
 IsStaticOf n (SetStatic k c) = k < n
 IsStaticOf n w = Unit {0}

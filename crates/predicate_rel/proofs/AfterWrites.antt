@@ -22,7 +22,7 @@ use Rattle.rotation.proofs.Indexes.{predicates_apart}
 use Rattle.predicate_rel.specs.Rules.{is_target, is_moved, name_before}
 use Rattle.predicate_rel.proofs.TestTruth.{TestWritten}
 
--- names and places of predicates stay
+-- Names and places of predicates stay.
 pub record SameNames (r now : Registers) : Type 0 where
   pub pr : now.frame.rrbs.pr ≡ r.frame.rrbs.pr
   pub predicates : now.predicates ≡ r.predicates
@@ -32,7 +32,7 @@ same_holds r now s x = holds_by_place now r x (λ n.
     ap (λ (bs : List Bool). get_or bs (predicate_index now.frame x) false) s.predicates
     ∙ ap (λ (k : ℕ). get_or r.predicates k false) (place_by_base now.frame r.frame x s.pr))
 
--- a write that touches no predicate and keeps their names
+-- A write that touches no predicate and keeps their names.
 abbrev pub IsPlain : ℕ → Write → Type 0
 IsPlain pr (SetPredicate n b) = ⊥
 IsPlain pr (SetFrame cause f) = f.rrbs.pr ≡ pr
@@ -60,7 +60,7 @@ spilled_names (Some b) r = record { pr = refl; predicates = refl }
 pub names_then : (r s t : Registers) → SameNames r s → SameNames s t → SameNames r t
 names_then r s t h k = record { pr = k.pr ∙ h.pr; predicates = k.predicates ∙ h.predicates }
 
--- a write that touches none of p1 to p15
+-- A write that touches none of p1 to p15.
 abbrev pub IsHigh : Write → Type 0
 IsHigh (SetPredicate n b) = 16 ≤ n
 IsHigh w = Unit {0}
@@ -79,7 +79,7 @@ high_holds ws r h x i = holds_by_place (apply ws r) r x (λ n.
     ∙ apply_high ws r x i h
     ∙ sym (ap (λ (k : ℕ). get_or r.predicates k false) (low_place r.frame x i)))
 
--- one write of a predicate
+-- One write of a predicate.
 abbrev set_one : FrameShape → ℕ → Bool → Registers → Registers
 set_one f p b s = apply (set_predicate (predicate_spot f p) b []) s
 
@@ -109,7 +109,7 @@ unfolding predicate_spot
 one_then f zero b ws s = refl
 one_then f (suc p) b ws s = refl
 
--- which predicates are targets
+-- Which predicates are targets.
 is_target_not : (p q x : ℕ) → x ≢ 0 → is_target p q x ≡ false → (x ≢ p) × (x ≢ q)
 is_target_not p q x h e = ((λ z. grind (arith, nat_tests)), (λ z. grind (arith, nat_tests)))
 
@@ -150,7 +150,7 @@ module _ (s : Registers) (p q : ℕ) (b c : Bool) (frame : IsFrame s.frame) (lon
   pub test_written : TestWritten s p q b c After
   test_written = record { other = others; target = targets }
 
--- a write of a predicate under the mask of a move
+-- A write of a predicate under the mask of a move.
 abbrev IsUnder : ℕ → Write → Type 0
 IsUnder mask (SetPredicate n b) = is_masked mask n ≡ true
 IsUnder mask w = ⊥
@@ -159,7 +159,7 @@ masked_under : (left n mask v : ℕ) → Each (IsUnder mask) (masked_writes left
 masked_under zero n mask v = tt
 masked_under (suc left) n mask v = may_write (IsUnder mask) (is_masked mask n) (SetPredicate n (bit v n)) (masked_writes left (suc n) mask v) (λ t. t) (masked_under left (suc n) mask v)
 
--- what stands at the other places stays
+-- What stands at the other places stays.
 put_under : (mask : ℕ) (w : Write) (r : Registers) (k : ℕ) → is_masked mask k ≡ false → IsUnder mask w → ((put w r).frame ≡ r.frame) × (get_or (put w r).predicates k false ≡ get_or r.predicates k false)
 put_under mask (SetPredicate n b) r k off on = (refl, get_or-set_other r.predicates n k b false (λ same. let e : is_masked mask k ≡ true = ap (is_masked mask) same ∙ on in cc))
 put_under mask w r k off on = absurd on
@@ -171,7 +171,7 @@ apply_under mask (w ∷ ws) r k off h =
     let rest = apply_under mask ws (put w r) k off h.1 in
     (rest.0 ∙ one.0, rest.1 ∙ one.1)
 
--- the mask has one bit for all predicates that rotate
+-- The mask has one bit for all predicates that rotate.
 masked_place : (f : FrameShape) (mask x : ℕ) → is_masked mask (predicate_index f x) ≡ is_masked mask x
 masked_place f mask x = of (cases_lt x 16)
   where
@@ -189,7 +189,7 @@ unmoved mask x h n = by_test (x == 0) (is_masked mask x) refl h
     by_test true t e k = absurd (n (grind (arith, nat_tests)))
     by_test false t e k = k
 
--- a move leaves the predicates that aren't under its mask
+-- A move leaves the predicates that aren't under its mask.
 pub moved_other : (mask v : ℕ) (r : Registers) (x : ℕ) → is_moved mask x ≡ false → holds (apply (predicate_writes mask v) r) x ≡ holds r x
 unfolding predicate_writes
 moved_other mask v r x h = holds_by_place (apply (masked_writes 63 1 mask v) r) r x (λ n.
@@ -197,7 +197,7 @@ moved_other mask v r x h = holds_by_place (apply (masked_writes 63 1 mask v) r) 
     let same = apply_under mask (masked_writes 63 1 mask v) r (predicate_index r.frame x) there (masked_under 63 1 mask v) in
     ap (λ (f : FrameShape). get_or (apply (masked_writes 63 1 mask v) r).predicates (predicate_index f x) false) same.0 ∙ same.1)
 
--- the registers after a rotation, where p63 was written under its old name
+-- The registers after a rotation, where p63 was written under its old name.
 pub record Turned (r : Registers) (b : Bool) (now : Registers) : Type 0 where
   pub frame : now.frame ≡ rotated r.frame
   pub predicates : now.predicates ≡ set r.predicates (predicate_index r.frame 63) b
@@ -219,14 +219,14 @@ rotated_pr : (f : FrameShape) → (rotated f).rrbs.pr ≡ (f.rrbs.pr + 47) % 48
 unfolding rotated
 rotated_pr f = refl
 
--- the name before a rotation
+-- The name before a rotation.
 before_low : (p : ℕ) → p < 16 → name_before p ≡ p
 before_low p h = grind (arith, nat_tests)
 
 before_high : (p : ℕ) → 16 ≤ p → name_before p ≡ p - 1
 before_high p h = grind (arith, nat_tests)
 
--- the place of a name after the rotation
+-- The place of a name after the rotation.
 before_place : (f : FrameShape) → IsFrame f → (p : ℕ) → p < 64 → p ≢ 16 → predicate_index (rotated f) p ≡ predicate_index f (name_before p)
 before_place f h p i n = of (cases_lt p 16)
   where
@@ -237,7 +237,7 @@ before_place f h p i n = of (cases_lt p 16)
         let r = h.predicates in
         rw (before_high p g, high_place (rotated f) p g, high_place f (p - 1) k, rotated_pr f) (omega arith)
 
--- p16 stands where p63 stood
+-- p16 stands where p63 stood.
 last_place : (f : FrameShape) → IsFrame f → predicate_index (rotated f) 16 ≡ predicate_index f 63
 last_place f h = let r = h.predicates in rw (high_place (rotated f) 16 (omega arith), high_place f 63 (omega arith), rotated_pr f) (omega arith)
 

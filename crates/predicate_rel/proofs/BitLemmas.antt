@@ -107,34 +107,34 @@ pick false false b = and_true_l b
 pub chosen_bits : (m a b y : ℕ) → m < 2 ^ 64 → y < 64 → has_bit (bit_or (bit_and a m) (bit_and b (18446744073709551615 - m))) y ≡ cond (has_bit m y) (has_bit a y) (has_bit b y)
 chosen_bits m a b y h l = has_bit_or (bit_and a m) (bit_and b (18446744073709551615 - m)) y ∙ (rw (has_bit_and a m y, has_bit_and b (18446744073709551615 - m) y, has_bit_not m y h l) (pick (has_bit m y) (has_bit a y) (has_bit b y)))
 
--- bits 0 to 15
+-- Bits 0 to 15.
 pub has_bit_fixed : (y : ℕ) → has_bit 65535 y ≡ ltb y 16
 has_bit_fixed y = elim (cases_lt y 16) [
   | inl l ↦ has_bit_one 65535 y (bit_at_ones 16 y l) ∙ sym (lt-ltb y 16 l)
   | inr l ↦ has_bit_zero 65535 y (bit_at_ones_above 16 y l) ∙ sym (le-ltb y 16 l)
 ]
 
--- a word moved up by one bit
+-- A word moved up by one bit.
 has_bit_doubled : (n y : ℕ) → y ≢ 0 → has_bit (n * 2 ^ 1 + 0) y ≡ has_bit n (y - 1)
 has_bit_doubled n y some = has_bit_apart (n * 2 ^ 1 + 0) n y (y - 1) (bit_at_cat_high n 1 0 y (omega arith) (omega arith))
 
--- what it loses at its top has no part in the bits below
+-- What it loses at its top has no part in the bits below.
 pub has_bit_moved : (n y : ℕ) → y < 64 → y ≢ 0 → has_bit (n * 2 ^ 1 % 18446744073709551616) y ≡ has_bit n (y - 1)
 has_bit_moved n y l some =
     let whole : (n * 2 ^ 1 / 2 ^ 64) * 2 ^ 64 + n * 2 ^ 1 % 2 ^ 64 ≡ n * 2 ^ 1 + 0 = omega arith in
     has_bit_like _ _ y (sym (bit_at_cat_low (n * 2 ^ 1 / 2 ^ 64) 64 (n * 2 ^ 1 % 2 ^ 64) y l) ∙ ap (λ (m : ℕ). bit_at m y) whole)
     ∙ has_bit_doubled n y some
 
--- the bits that a move's mask stands for
+-- The bits that a move's mask stands for.
 pub moved_bits : (mask y : ℕ) → is_moved mask y ≡ (not (eqb y 0) && cond (ltb y 16) (has_bit mask y) (has_bit mask 16))
 unfolding has_bit
 moved_bits mask y = refl
 
--- the lowest bit of a word that has one
+-- The lowest bit of a word that has one.
 pub lowest_there : (n : ℕ) → n ≢ 0 → n < 2 ^ 64 → has_bit n (trailing_zeros w64 n) ≡ true
 lowest_there n some fits = has_bit_one n (trailing_zeros w64 n) (bit_at-trailing_zeros w64 n (omega arith) fits).1
 
--- a word without one of its bits, which is less
+-- A word without one of its bits, which is less.
 pub without_bits : (n k y : ℕ) → k < 64 → y < 64 → has_bit (bit_and n (18446744073709551615 - 1 * 2 ^ k % 18446744073709551616)) y ≡ (not (eqb y k) && has_bit n y)
 without_bits n k y l m = clear_value n k false l refl y m ∙ by_bool (eqb y k)
   where

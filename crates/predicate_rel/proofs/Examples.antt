@@ -11,8 +11,8 @@ use Rattle.ia_meaning.specs.declared.action.Action.TheVariants as action
 use Rattle.predicate_rel.specs.declared.edge.Edge.TheVariants.{Falls, Taken}
 use Rattle.predicate_rel.specs.Rules.{always, never, one, two, action_rule}
 
--- a normal test of p6 and p7: a target and another predicate, in both orders; a target and p0, in both spellings; the two
--- targets; two others
+-- A normal test of p6 and p7: a target and another predicate, in both orders; a target and p0, in both spellings; the two
+-- targets; two others.
 normal : action_rule (action.Test cmp.Normal 6 7 0 0 NatIsZero) Falls 8 6 9 ≡ two 6 9 8 9
 normal = refl
 
@@ -34,11 +34,11 @@ normal_under_p0 = refl
 normal_others : action_rule (action.Test cmp.Normal 6 7 0 0 NatIsZero) Falls 8 9 10 ≡ one 9 10
 normal_others = refl
 
--- p0 as a target isn't written
+-- p0 as a target isn't written.
 normal_one : action_rule (action.Test cmp.Normal 6 0 0 0 NatIsZero) Falls 8 6 0 ≡ two 6 0 8 0
 normal_one = refl
 
--- unc, or, and
+-- unc, or, and.
 unc : action_rule (action.Test cmp.Unc 6 7 0 0 NatIsZero) Falls 8 6 9 ≡ one 8 9
 unc = refl
 
@@ -57,7 +57,7 @@ or_both = refl
 and : action_rule (action.Test cmp.And 6 7 0 0 NatIsZero) Falls 8 6 9 ≡ one 6 9
 and = refl
 
--- or.andcm: the first target, the second one, both
+-- or.andcm: the first target, the second one, both.
 or_andcm_first : action_rule (action.Test cmp.OrAndcm 6 7 0 0 NatIsZero) Falls 8 6 9 ≡ two 6 9 8 9
 or_andcm_first = refl
 
@@ -67,7 +67,7 @@ or_andcm_second = refl
 or_andcm_both : action_rule (action.Test cmp.OrAndcm 6 7 0 0 NatIsZero) Falls 8 6 7 ≡ one 6 7
 or_andcm_both = refl
 
--- a move under the mask of p6 and p16 to p63
+-- A move under the mask of p6 and p16 to p63.
 move : action_rule (action.ToPredicates 5 65600 Register) Falls 8 6 9 ≡ two 6 9 8 9
 move = refl
 
@@ -77,7 +77,7 @@ move_both = refl
 move_others : action_rule (action.ToPredicates 5 65600 Register) Falls 8 7 9 ≡ one 7 9
 move_others = refl
 
--- branches and `break`
+-- Branches and `break`.
 falls_guard : action_rule (action.Jump (pos 0)) Falls 8 8 20 ≡ always
 falls_guard = refl
 
@@ -111,7 +111,7 @@ taken_call_below = refl
 clear : action_rule (action.ClearBases true) Falls 0 9 16 ≡ never
 clear = refl
 
--- loop branches
+-- loop branches.
 top_taken : action_rule (action.Loop branch.Ctop (pos 0)) Taken 0 17 9 ≡ one 16 9
 top_taken = refl
 
@@ -133,7 +133,7 @@ top_falls = refl
 counted : action_rule (action.Loop branch.Cloop (pos 0)) Taken 0 17 9 ≡ one 17 9
 counted = refl
 
--- any other
+-- Any other.
 idle : action_rule (action.Idle B) Falls 8 8 20 ≡ one 8 20
 idle = refl
 

@@ -20,7 +20,7 @@ pub record IsNarrowed (old past : Pairs) (is_in is_left : ℕ → Bool) (now : P
   pub outside : (x y : ℕ) → x < 64 → is_in x ≡ false → now x y ≡ old x y
   pub done : (x y : ℕ) → x < 64 → y < 64 → is_in x ≡ true → is_left x ≡ false → now x y ≡ (old x y && past x y)
 
--- one row more
+-- One row more.
 pub narrowed_row : (old past now now' : Pairs) (is_in is_left is_left' : ℕ → Bool) (k row : ℕ) → IsNarrowed old past is_in is_left now → k < 64 → is_left k ≡ true → ((x : ℕ) → x < 64 → is_left' x ≡ (not (eqb x k) && is_left x)) → ((y : ℕ) → y < 64 → has_bit row y ≡ past k y) → ((x y : ℕ) → now' x y ≡ (now x y && (not (eqb x k) || has_bit row y))) → IsNarrowed old past is_in is_left' now'
 narrowed_row old past now now' is_in is_left is_left' k row h below there less is_row narrowed = record {
   inside = λ x l e. h.inside x l (and_parts (not (eqb x k)) (is_left x) (sym (less x l) ∙ e)).1;
@@ -37,7 +37,7 @@ narrowed_row old past now now' is_in is_left is_left' k row h below there less i
     of_done x y l m e n (inl same) = narrowed x y ∙ (rw (eq-eqb x k same, same, is_row y m, h.left k y below there) refl)
     of_done x y l m e n (inr ne) = narrowed x y ∙ (rw (ne_eqb x k ne) (and_true (now x y))) ∙ h.done x y l m e (rw (ne_eqb x k ne) at n)
 
--- what is left was there
+-- What is left was there.
 pub narrowed_within : (old past now : Pairs) (is_in is_left : ℕ → Bool) (x y : ℕ) → IsNarrowed old past is_in is_left now → x < 64 → y < 64 → now x y ≡ true → old x y ≡ true
 narrowed_within old past now is_in is_left x y h l m e = by_case (cases_Bool (is_in x)) (cases_Bool (is_left x))
   where
@@ -46,7 +46,7 @@ narrowed_within old past now is_in is_left x y h l m e = by_case (cases_Bool (is
     by_case (inl t) (inl s) = sym (h.left x y l s) ∙ e
     by_case (inl t) (inr n) = (and_parts (old x y) (past x y) (sym (h.done x y l m t n) ∙ e)).0
 
--- sets of predicates are the same where each pair of two predicates is
+-- Sets of predicates are the same where each pair of two predicates is.
 pairs_same : (a b : Pairs) → ((x y : ℕ) → in_range x y ≡ false → a x y ≡ false) → ((x y : ℕ) → in_range x y ≡ false → b x y ≡ false) → ((x y : ℕ) → x < 64 → y < 64 → a x y ≡ b x y) → a ≡ b
 pairs_same a b out out' inside = fun_ext (λ x. fun_ext (λ y. by_range x y (cases_Bool (in_range x y))))
   where
@@ -149,7 +149,7 @@ narrows_all rules changed before old new lost h others some =
       more = some;
     }
 
--- rules that leave each pair leave sets that differ as these do
+-- Rules that leave each pair leave sets that differ as these do.
 pub kept_agree : (rules : ℕ → ℕ → PairRule) (changed : ℕ) (f g : Pairs) → ((x y : ℕ) → rules x y ≡ one x y) → AgreeOutside changed f g → AgreeOutside changed (pairs_by f rules) (pairs_by g rules)
 kept_agree rules changed f g kept agree = record { same = λ x y n. rw (kept x y) (ap (λ (b : Bool). in_range x y && b) (agree.same x y n)) }
 
@@ -158,7 +158,7 @@ pub record HasLost (old : Pairs) (lost : ℕ) (now : Pairs) : Type 0 where
   pub others : (x y : ℕ) → x < 64 → has_bit lost x ≡ false → now x y ≡ old x y
   pub more : lost ≢ 0 → HasMore old now
 
--- a row that lost something is marked
+-- A row that lost something is marked.
 pub lost_row : (old now now' : Pairs) (lost lost' k row : ℕ) → HasLost old lost now → ((x y : ℕ) → x < 64 → y < 64 → now x y ≡ true → old x y ≡ true) → ((x : ℕ) → x < 64 → has_bit lost' x ≡ cond (eqb x k) true (has_bit lost x)) → ((x y : ℕ) → now' x y ≡ (now x y && (not (eqb x k) || has_bit row y))) → HasMore now now' → HasLost old lost' now'
 lost_row old now now' lost lost' k row h within marks narrowed m = record {
   others = λ x y l n. of_others x y l (sym (marks x l) ∙ n) (cases_eq x k);
@@ -211,6 +211,6 @@ row_more rows k word row y sized below l bits there missing = record {
   missing = row_written rows k word row sized below bits k y ∙ (rw (eq-eqb k k refl, missing, there) refl);
 }
 
--- a row of what is known past an instruction
+-- A row of what is known past an instruction.
 pub row_past : (f : Pairs) (rules : ℕ → ℕ → PairRule) (k row : ℕ) → k < 64 → IsRow row (rules k) f → (y : ℕ) → y < 64 → has_bit row y ≡ pairs_by f rules k y
 row_past f rules k row below is y l = is y l ∙ (rw (in_range_from k y below l) refl)

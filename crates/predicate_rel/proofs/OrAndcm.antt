@@ -6,7 +6,7 @@ use Rattle.predicate_rel.specs.declared.rows.Kept.{Kept}
 use Rattle.predicate_rel.specs.declared.rows.Kept.TheVariants.{Own, Both}
 use Rattle.predicate_rel.specs.Rules.{PairRule, one, kept_rule, by_written, written_rule, is_target, or_andcm_kept}
 
--- what a written predicate keeps is all that its row asks of it
+-- What a written predicate keeps is all that its row asks of it.
 kept_at : (t : ℕ → Bool) (both : ℕ → ℕ → PairRule) (k k' : ℕ → Kept) (g x y : ℕ) → t x ≡ true → k x ≡ k' x → written_rule t both k g x y ≡ written_rule t both k' g x y
 kept_at t both k k' g x y e same = rw e (by_bool (t (cond (true && eqb x y) 0 y)) (cond (true && eqb x y) 0 y))
   where
@@ -14,7 +14,7 @@ kept_at t both k k' g x y e same = rw e (by_bool (t (cond (true && eqb x y) 0 y)
     by_bool true u = refl
     by_bool false u = ap (λ (w : Kept). kept_rule w g x u u) same
 
--- a row of a predicate that isn't written
+-- A row of a predicate that isn't written.
 pub not_written : (t : ℕ → Bool) (both : ℕ → ℕ → PairRule) (k : ℕ → Kept) (g x y : ℕ) → t x ≡ false → written_rule t both k g x y ≡ cond (t y) (kept_rule (k y) g x y x) (one x y)
 not_written t both k g x y e = rw e (by_bool (t y))
   where
@@ -22,7 +22,7 @@ not_written t both k g x y e = rw e (by_bool (t y))
     by_bool true = refl
     by_bool false = refl
 
--- the first target is written, and keeps what an or-written one does; the second one keeps its pairs
+-- The first target is written, and keeps what an or-written one does; the second one keeps its pairs.
 target_first : (p1 p2 x : ℕ) → is_target p1 p1 x ≡ true → is_target p1 p2 x ≡ true
 target_first p1 p2 x e = grind (arith, nat_tests, e)
 
@@ -32,7 +32,7 @@ kept_first p1 x e = let first : eqb x p1 ≡ true = grind (arith, nat_tests, e) 
 kept_second : (p1 p2 x : ℕ) → is_target p1 p1 x ≡ false → is_target p1 p2 x ≡ true → or_andcm_kept p1 x ≡ Own
 kept_second p1 p2 x e h = let other : eqb x p1 ≡ false = grind (arith, nat_tests, e, h) in rw other refl
 
--- the row of the first target, of the second, and of a predicate that isn't written
+-- The row of the first target, of the second, and of a predicate that isn't written.
 pub first_row : (p1 p2 g x y : ℕ) → is_target p1 p1 x ≡ true → written_rule (is_target p1 p2) one (λ _. Both) g x y ≡ written_rule (is_target p1 p2) one (or_andcm_kept p1) g x y
 first_row p1 p2 g x y e = kept_at (is_target p1 p2) one (λ _. Both) (or_andcm_kept p1) g x y (target_first p1 p2 x e) (sym (kept_first p1 x e))
 

@@ -17,16 +17,16 @@ use Rattle.predicate_rel.specs.Changes.{AgreeOutside}
 use Rattle.predicate_rel.specs.Rules.{PairRule, always, never, one, two, is_met, kept_rule, by_written, partner, written_rule, is_target, normal_targets, or_andcm_kept, test_rule, raised_rule, is_moved, falls_rule, static_rule, name_before, rotated_rule, loop_rule, action_rule, pairs_by}
 use Rattle.predicate_rel.proofs.PairLemmas.{in_range_parts}
 
--- two pairs that are there in one set where they are in the other
+-- Two pairs that are there in one set where they are in the other.
 and_same : {a b c d : Bool} → a ≡ c → b ≡ d → (a && b) ≡ (c && d)
 and_same p q = λ i. p i && q i
 
--- a rule that is a choice asks for the same in both sets where each of its two does
+-- A rule that is a choice asks for the same in both sets where each of its two does.
 choice_same : (b : Bool) (r s : PairRule) (f h : Pairs) → is_met r f ≡ is_met r h → is_met s f ≡ is_met s h → is_met (cond b r s) f ≡ is_met (cond b r s) h
 choice_same true r s f h p q = p
 choice_same false r s f h p q = q
 
--- what a written predicate keeps is asked of its own row and that of the guard
+-- What a written predicate keeps is asked of its own row and that of the guard.
 kept_same : (k : Kept) (g x y u : ℕ) (f h : Pairs) → ((z : ℕ) → f x z ≡ h x z) → ((z : ℕ) → f g z ≡ h g z) → is_met (kept_rule k g x y u) f ≡ is_met (kept_rule k g x y u) h
 kept_same Own g x y u f h own guard = own y
 kept_same Guard g x y u f h own guard = guard u
@@ -44,7 +44,7 @@ written_same t both kept g x y f h own guard written = by_bools (t x) refl (t (p
 raised_same : (t : ℕ → Bool) (g x y : ℕ) (f h : Pairs) → ((z : ℕ) → f x z ≡ h x z) → ((z : ℕ) → f g z ≡ h g z) → is_met (raised_rule t g x y) f ≡ is_met (raised_rule t g x y) h
 raised_same t g x y f h own guard = written_same t (λ a b. two a b g 0) (λ _. Both) g x y f h own guard (λ e. and_same (own y) (guard 0))
 
--- the pair of the targets is asked of the row of the first, also by the second
+-- The pair of the targets is asked of the row of the first, also by the second.
 targets_same : (p1 p2 g x : ℕ) (f h : Pairs) → is_target p1 p2 x ≡ true → ((z : ℕ) → f x z ≡ h x z) → (eqb x p2 ≡ true → (z : ℕ) → f p1 z ≡ h p1 z) → is_met (normal_targets p1 p2 g) f ≡ is_met (normal_targets p1 p2 g) h
 targets_same p1 p2 g x f h target own second = choice_same (eqb g 0) always (one p1 p2) f h refl (by_target (or_cases (eqb x p1) (eqb x p2) (and_parts (not (eqb x 0)) (eqb x p1 || eqb x p2) target).1))
   where
@@ -86,7 +86,7 @@ has_part (action.ToPredicates r2 mask word) g w x = has_bit w x || has_bit w g
 has_part (action.Loop kind disp) g w x = has_bit w x || has_bit w (x - 1)
 has_part a g w x = has_bit w x
 
--- the name before a rotation is one that has a part
+-- The name before a rotation is one that has a part.
 before_same : (w x : ℕ) (f h : Pairs) → AgreeOutside w f h → has_bit w x ≡ false → has_bit w (x - 1) ≡ false → (z : ℕ) → f (name_before x) z ≡ h (name_before x) z
 before_same w x f h agree own before z = by_bool (nat_lt x 16)
   where
@@ -94,7 +94,7 @@ before_same w x f h agree own before z = by_bool (nat_lt x 16)
     by_bool true = agree.same x z own
     by_bool false = agree.same (x - 1) z before
 
--- rules are met by both sets in each row in which none of those that differ has a part
+-- Rules are met by both sets in each row in which none of those that differ has a part.
 action_same : (a : Action) (edge : Edge) (g w x y : ℕ) (f h : Pairs) → AgreeOutside w f h → has_part a g w x ≡ false → is_met (action_rule a edge g x y) f ≡ is_met (action_rule a edge g x y) h
 action_same (action.Test kind p1 p2 r2 r3 c) edge g w x y f h agree none =
     let parts = or_parts (has_bit w x || (has_bit w p1 && eqb x p2)) (has_bit w g) none in
@@ -127,7 +127,7 @@ agree_past a g w r parts edge f h agree = record { same = λ x y none. by_range 
     by_range x y none true e = action_same a edge g w x y f h agree (parts x (in_range_parts x y e).0 none)
     by_range x y none false e = refl
 
--- the row before has a part in a loop's where a word that is moved up has the bit
+-- The row before has a part in a loop's where a word that is moved up has the bit.
 pub before_part : (w moved r x : ℕ) → (x ≢ 0 → has_bit moved x ≡ has_bit w (x - 1)) → has_bit r x ≡ (has_bit w x || has_bit moved x) → has_bit r x ≡ false → (has_bit w x || has_bit w (x - 1)) ≡ false
 before_part w moved r x up is none = or_from (has_bit w x) (has_bit w (x - 1)) parts.0 (by_zero (cases_eq x 0))
   where

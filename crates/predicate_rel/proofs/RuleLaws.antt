@@ -6,17 +6,17 @@ use Rattle.ia_insn.specs.declared.insn.Insn.{Insn}
 use Rattle.predicate_rel.specs.Pairs.{Pairs, in_range, common, IsWithin}
 use Rattle.predicate_rel.specs.Rules.{PairRule, always, never, one, two, is_met, rule_of, pairs_after}
 
--- the pairs of a meet are those of both
+-- The pairs of a meet are those of both.
 pub common-true : (f g : Pairs) (x y : ℕ) → common f g x y ≡ true → (f x y ≡ true) × (g x y ≡ true)
 unfolding common
 common-true f g x y h = and_parts (f x y) (g x y) h
 
--- one that is missing is missing in one of them
+-- One that is missing is missing in one of them.
 pub common-false : (f g : Pairs) (x y : ℕ) → common f g x y ≡ false → (f x y ≡ false) ⊎ (g x y ≡ false)
 unfolding common
 common-false f g x y h = and_cases (f x y) (g x y) h
 
--- a rule that is met is met by a larger set
+-- A rule that is met is met by a larger set.
 met_within : (r : PairRule) (f g : Pairs) → IsWithin f g → is_met r f ≡ true → is_met r g ≡ true
 met_within always f g w h = refl
 met_within never f g w h = h
@@ -24,7 +24,7 @@ met_within (one a b) f g w h = w.each a b h
 met_within (two a b c d) f g w h =
     let both = and_parts (f a b) (f c d) h in and_from (g a b) (g c d) (w.each a b both.0) (w.each c d both.1)
 
--- what is left of a larger set is larger
+-- What is left of a larger set is larger.
 pub pairs_after-within : (f g : Pairs) (i : Insn) (e : Edge) → IsWithin f g → IsWithin (pairs_after f i e) (pairs_after g i e)
 unfolding pairs_after
 pairs_after-within f g i e w = record {
@@ -32,12 +32,12 @@ pairs_after-within f g i e w = record {
       and_from (in_range x y) (is_met (rule_of i e x y) g) both.0 (met_within (rule_of i e x y) f g w both.1);
 }
 
--- a pair is missing after an instruction whatever was there before, or since one pair was missing before
+-- A pair is missing after an instruction whatever was there before, or since one pair was missing before.
 pub data WhyMissing (f : Pairs) (i : Insn) (e : Edge) (x y : ℕ) : Type 0 where
   whatever : ((g : Pairs) → pairs_after g i e x y ≡ false) → WhyMissing f i e x y
   since : (a b : ℕ) → f a b ≡ false → ((g : Pairs) → g a b ≡ false → pairs_after g i e x y ≡ false) → WhyMissing f i e x y
 
--- the reason by the rule
+-- The reason by the rule.
 from_rule : (f : Pairs) (i : Insn) (e : Edge) (x y : ℕ) (r : PairRule) → rule_of i e x y ≡ r → is_met r f ≡ false → WhyMissing f i e x y
 unfolding pairs_after
 from_rule f i e x y always is h = cc
@@ -49,7 +49,7 @@ from_rule f i e x y (two a b c d) is h = by_case (and_cases (f a b) (f c d) h)
     by_case (inl n) = since a b n (λ g m. and_right (in_range x y) _ (rw is (and_left (g a b) (g c d) m)))
     by_case (inr n) = since c d n (λ g m. and_right (in_range x y) _ (rw is (and_right (g a b) (g c d) m)))
 
--- there is always a reason
+-- There is always a reason.
 pub why_missing : (f : Pairs) (i : Insn) (e : Edge) (x y : ℕ) → pairs_after f i e x y ≡ false → WhyMissing f i e x y
 unfolding pairs_after
 why_missing f i e x y h = by_case (and_cases (in_range x y) (is_met (rule_of i e x y) f) h)

@@ -11,11 +11,11 @@ use Rattle.predicate_rel.specs.Pairs.{Pairs}
 use Rattle.predicate_rel.specs.Rules.{PairRule, always, never, one, two, is_met, kept_rule, by_written, partner, written_rule, or_andcm_kept, raised_rule, falls_rule, static_rule, name_before, rotated_rule}
 use Rattle.predicate_rel.specs.Truth.{AreNeverBothOne}
 
--- the predicates of a pair whose rule is met are not both 1
+-- The predicates of a pair whose rule is met are not both 1.
 pub record IsRuleApart (rule : ℕ → ℕ → PairRule) (f : Pairs) (now : Registers) : Type 0 where
   pub apart : (x y : ℕ) → x < 64 → y < 64 → is_met (rule x y) f ≡ true → holds now x ≡ true → holds now y ≡ true → ⊥
 
--- no predicate became 1
+-- No predicate became 1.
 pub record IsBelow (r now : Registers) : Type 0 where
   pub was : (x : ℕ) → x < 64 → holds now x ≡ true → holds r x ≡ true
 
@@ -64,7 +64,7 @@ rotated_apart first f r now back last a = record { apart = λ x y i j m h k. of 
     of x y i j false true d e m h k = last m (at_last y e k)
     of x y i j false false d e m h k = a.apart (name_before x) (name_before y) m (sym (back x i (not_last x d)) ∙ h) (sym (back y j (not_last y e)) ∙ k)
 
--- the reason that a predicate x that is written is 1, by what is kept of its pairs
+-- The reason that a predicate x that is written is 1, by what is kept of its pairs.
 abbrev pub IsReason : Kept → Registers → ℕ → ℕ → Type 0
 IsReason Own r g x = holds r x ≡ true
 IsReason Guard r g x = holds r g ≡ true
@@ -79,7 +79,7 @@ kept_reason Both f r g a b u x own guard m reason = let both = and_parts (f a b)
     of c d (inl h) = own c h
     of c d (inr h) = guard d h
 
--- the second of a pair as the rule takes it
+-- The second of a pair as the rule takes it.
 partner_cases : (t : ℕ → Bool) (x y : ℕ) → ((partner t x y ≡ y) × (t x ≡ true → x ≢ y)) ⊎ ((partner t x y ≡ 0) × (t x ≡ true) × (x ≡ y))
 partner_cases t x y = of (t x) (x == y) refl refl
   where
@@ -88,7 +88,7 @@ partner_cases t x y = of (t x) (x == y) refl refl
     of true false d e = inl (refl, λ h s. grind (arith, nat_tests))
     of true true d e = let same : x ≡ y = grind (arith, nat_tests) in inr (refl, d, same)
 
--- what a test or a move writes
+-- What a test or a move writes.
 pub record IsWritten (t : ℕ → Bool) (both : ℕ → ℕ → PairRule) (kept : ℕ → Kept) (g : ℕ) (f : Pairs) (r now : Registers) : Type 0 where
   pub zero : t 0 ≡ false
   pub unwritten : (x : ℕ) → x < 64 → t x ≡ false → holds now x ≡ true → holds r x ≡ true

@@ -40,11 +40,11 @@ use Rattle.predicate_rel.specs.Edges.{leaves, may_fall, displacement_of, target_
 use Rattle.predicate_rel.specs.Steps.{edge_by, IsIndirect, LandsOnEntry, FollowsEdge, GoesAlong}
 use Rattle.predicate_rel.proofs.EdgeEnds.{same_displacement, is_edge_end}
 
--- a site on which no branch lands
+-- A site on which no branch lands.
 abbrev closed : Site → Site
 closed s = record { bundle = s.bundle; arrival = λ _ _. Err BadLanding }
 
--- what isn't an indirect branch does the same there
+-- What isn't an indirect branch does the same there.
 act_closed : (s : Site) (o : Op) (r : Registers) (m : Memory) (unat : ℕ) → is_indirect (action_of o) ≡ false → act s (action_of o) r m unat ≡ act (closed s) (action_of o) r m unat
 act_closed s (op.BrInd b2 wh many clr) r m unat n = absurd (cc)
 act_closed s (op.BrRet b2 wh many clr) r m unat n = absurd (cc)
@@ -60,14 +60,14 @@ skip_closed s action r m = refl
 effect_closed : (s : Site) (insn : Insn) (r : Registers) (m : Memory) (unat : ℕ) → is_indirect (action_of insn.op) ≡ false → effect s insn r m unat ≡ effect (closed s) insn r m unat
 effect_closed s insn r m unat n = rw (act_closed s insn.op r m unat n, skip_closed s (action_of insn.op) r m) refl
 
--- where an instruction in a bundle goes to: its target, or, where it is an indirect branch, an entry whose relations the
--- first sixteen predicates don't break
+-- Where an instruction in a bundle goes to: its target, or, where it is an indirect branch, an entry whose relations the
+-- first sixteen predicates don't break.
 abbrev IsWayOf : Program → ℕ → List Bool → Insn → ℕ → Type 0
 IsWayOf p bundle low insn to =
     (target_at bundle (displacement_of (action_of insn.op)) ≡ Some (first_of to))
     ⊎ (IsIndirect insn × IsEntry p to × (breaks_relation p low to ≡ false))
 
--- an address on which a branch lands is that of an entry
+-- An address on which a branch lands is that of an entry.
 landing_entry : (p : Program) (address : ℕ) → IfSome (landing p address) (IsEntry p)
 unfolding landing
 landing_entry p address = chosen ((address - bundle_address 0) / 16) (nat_le (bundle_address 0) address) (is_entry p ((address - bundle_address 0) / 16)) refl
@@ -126,7 +126,7 @@ settled_leaves : (r : Registers) (next : Option Place) (m : Memory) (way : Next)
 settled_leaves r None m next.Falls o h = refl
 settled_leaves r next m way o h = h
 
--- an instruction that falls through may do so
+-- An instruction that falls through may do so.
 leaving_op : (o : Op) → leaves (action_of o) ≡ true → IsLeaving o
 leaving_op (op.Br Cond wh many clr disp) h = tt
 leaving_op (op.Br kind wh many clr disp) h = absurd (cc)
@@ -147,13 +147,13 @@ falling_may s insn r m unat e = by_tests (insn.qp == 0) (leaves (action_of insn.
         let z : insn.qp ≡ 0 = grind (arith, nat_tests) in
         absurd (effect_leaves s insn r m unat z (leaving_op insn.op j) e)
 
--- what is shown of a step
+-- What is shown of a step.
 abbrev IsAlong : Program → State → Step → Type 0
 IsAlong p s step =
     HasEdge p s.place (edge_by step.how) step.state.place
     ⊎ (IsSomeAnd (insn_at p.bundles s.place) IsIndirect × (step.how ≡ Some how.Taken) × (step.state.place.slot ≡ 0) × IsEntry p step.state.place.bundle × (breaks_relation p (take 16 step.state.registers.predicates) step.state.place.bundle ≡ false))
 
--- a fall, with a stop or without one
+-- A fall, with a stop or without one.
 pub edge_falling : (stopped : Bool) → edge_by (how_falling stopped) ≡ Falls
 edge_falling true = refl
 edge_falling false = refl

@@ -73,7 +73,7 @@ KeepsOn f action g now (next.Faults kind) = ⊤
 abbrev Keeps : Pairs → Action → ℕ → Registers → Outcome → Type 0
 Keeps f action g r o = KeepsOn f action g (registers_after o r) o.next
 
--- writes of general registers touch no predicate
+-- Writes of general registers touch no predicate.
 spot_plain : (pr : ℕ) (d : Spot) (c : Cell) (ws : List Write) → Each (IsPlain pr) ws → Each (IsPlain pr) (set_spot d c ws)
 spot_plain pr (Static zero) c ws rest = rest
 spot_plain pr (Static (suc n)) c ws rest = (tt, rest)
@@ -84,7 +84,7 @@ base_plain pr update.None e base more = tt
 base_plain pr (update.Reg r2) e base more = spot_plain pr e _ [] tt
 base_plain pr (update.Imm imm) e base more = spot_plain pr e _ [] tt
 
--- the writes of a loop branch
+-- The writes of a loop branch.
 turn_high : (t : Turn) (f : FrameShape) → Each IsHigh (turn_writes t f)
 turn_high t f =
     each_written IsHigh SetLc t.lc _ (λ x e. tt)
@@ -92,12 +92,12 @@ turn_high t f =
     (each_written IsHigh (SetPredicate (predicate_index f 63)) t.p63 _ (λ x e. place_high f 63 (omega arith))
     (may_write IsHigh t.rotates (SetFrame Renamed (rotated f)) [] (λ e. tt) tt)))
 
--- a turn that rotates, and what it writes into p63
+-- A turn that rotates, and what it writes into p63.
 record IsRotation (t : Turn) (b : Bool) : Type 0 where
   rotates : t.rotates ≡ true
   p63 : t.p63 ≡ Some b
 
--- a counted loop goes on while LC isn't 0
+-- A counted loop goes on while LC isn't 0.
 abbrev counts_on : ℕ → Bool
 counts_on zero = false
 counts_on (suc lc) = true
@@ -115,7 +115,7 @@ while_rotates top true ec h = record { rotates = refl; p63 = refl }
 while_rotates top false ec h = counted_rotates top 0 ec h
 
 module _ (f : Pairs) (g : ℕ) (r : Registers) (frame : IsFrame r.frame) (long : length r.predicates ≡ 64) (a : AreNeverBothOne f r) where
-  -- writes that touch no predicate
+  -- Writes that touch no predicate.
   plain : (ws : List Write) → Each (IsPlain r.frame.rrbs.pr) ws → IsRuleApart one f (apply ws r)
   plain ws h = let s = apply_plain ws r h in kept_apart f r (apply ws r) (record { was = λ x i k. sym (same_holds r (apply ws r) s x) ∙ k }) a
 
@@ -126,7 +126,7 @@ module _ (f : Pairs) (g : ℕ) (r : Registers) (frame : IsFrame r.frame) (long :
       let s = names_then r (spilled o r) (apply ws (spilled o r)) first (apply_plain ws (spilled o r) plain) in
       kept_apart f r (apply ws (spilled o r)) (record { was = λ x i k. sym (same_holds r (apply ws (spilled o r)) s x) ∙ k }) a
 
-  -- writes that touch p16 to p63 alone
+  -- Writes that touch p16 to p63 alone.
   static : (ws : List Write) → Each IsHigh ws → IsRuleApart static_rule f (apply ws r)
   static ws h = static_apart f r (apply ws r) (high_holds ws r h) a
 
@@ -164,7 +164,7 @@ module _ (f : Pairs) (g : ℕ) (r : Registers) (frame : IsFrame r.frame) (long :
     test_cleared kind e = subst (λ (k : CmpKind). IsRuleApart (test_rule k p q g) f (apply (set_predicate (predicate_spot r.frame p) false (set_predicate (predicate_spot r.frame q) false [])) r)) (sym e)
         (unc_cleared p q g false false f r _ (wrote false false) ne a refl refl)
 
-  -- loop branches
+  -- loop branches.
   rotation : (t : Turn) (b : Bool) (first : PairRule) → IsRotation t b → (is_met first f ≡ true → b ≡ false) → IsRuleApart (rotated_rule first) f (apply (turn_writes t r.frame) r)
   rotation t b first is low =
       let now = turned t b r is.rotates is.p63 in
@@ -184,7 +184,7 @@ module _ (f : Pairs) (g : ℕ) (r : Registers) (frame : IsFrame r.frame) (long :
   simple_kept zero = plain [] tt
   simple_kept (suc lc) = plain (SetLc lc ∷ []) (tt, tt)
 
-  -- of a loop branch, taken and falling; a counted one has no qualifying predicate
+  -- Of a loop branch, taken and falling; a counted one has no qualifying predicate.
   loop_keeps : (qp : Bool) → holds r g ≡ qp → (kind : BranchKind) (disp : ℤ) (bundle : ℕ) (m : Memory) → IsQualifier kind g → TurnCases (Keeps f (Loop kind disp) g r) (turn_of kind qp r.lc r.ec) r.frame bundle m
   loop_keeps qp is branch.Cond disp bundle m q = (λ t d. plain [] tt, λ t. plain [] tt)
   loop_keeps qp is branch.Wexit disp bundle m q = (λ t d. static_turn (while_turn false qp r.ec), λ t. while_rotation false qp r.ec t)
@@ -249,7 +249,7 @@ module _ (f : Pairs) (g : ℕ) (r : Registers) (frame : IsFrame r.frame) (long :
   skip_keeps s (Stop unit imm) m n off = fallen off
   skip_keeps s action m n off = still
 
--- the rules of all pairs, as the set that they leave
+-- The rules of all pairs, as the set that they leave.
 rules_apart : (f : Pairs) (insn : Insn) (e : Edge) (now : Registers) → IsRuleApart (action_rule (action_of insn.op) e insn.qp) f now → AreNeverBothOne (pairs_after f insn e) now
 unfolding pairs_after rule_of
 rules_apart f insn e now h = record {
@@ -259,7 +259,7 @@ rules_apart f insn e now h = record {
       h.apart x y small.0 small.1 both.1 i j;
 }
 
--- what is shown of a step
+-- What is shown of a step.
 abbrev KeepsAlong : Program → State → Pairs → Step → Type 0
 KeepsAlong p s f step = HasEdge p s.place (edge_by step.how) step.state.place → AreNeverBothOne (pairs_past p s.place (edge_by step.how) f) step.state.registers
 
@@ -283,7 +283,7 @@ module _ (p : Program) (s : State) (f : Pairs) (insn : Insn) (program : IsProgra
   settled_keeps None (next.Faults kind) o e h = h
   settled_keeps (Some to) way o e h = h
 
-  -- a taken edge has a target
+  -- A taken edge has a target.
   has_target : (to : Place) → edge_of p.bundles s.place (Some insn) Taken ≡ Some to → IsSome (displacement_of (action_of insn.op))
   has_target to leads = of (displacement_of (action_of insn.op)) leads
     where
@@ -295,7 +295,7 @@ module _ (p : Program) (s : State) (f : Pairs) (insn : Insn) (program : IsProgra
   unfolding edge_end
   edge_leads e to edge = sym (ap (λ (o : Option Insn). edge_of p.bundles s.place o e) here) ∙ edge.leads
 
-  -- what is known past the place is what the instruction leaves
+  -- What is known past the place is what the instruction leaves.
   past_here : (e : Edge) (now : Registers) → AreNeverBothOne (pairs_after f insn e) now → AreNeverBothOne (pairs_past p s.place e f) now
   unfolding pairs_past
   past_here e now h = subst (λ (o : Option Insn). AreNeverBothOne (pairs_past_insn o e f) now) (sym here) h

@@ -12,11 +12,11 @@ use Rattle.predicate_rel.specs.Rules.{always, one, is_met, is_target, normal_tar
 use Rattle.predicate_rel.specs.Truth.{AreNeverBothOne}
 use Rattle.predicate_rel.proofs.RuleTruth.{IsRuleApart, below_itself, kept_apart, IsReason, written_apart, same_written, both_not_guard, or_andcm_not_guard, raised_same, raised_written}
 
--- the two targets, in some order
+-- The two targets, in some order.
 both_targets : (p q x y : ℕ) → is_target p q x ≡ true → is_target p q y ≡ true → x ≢ y → ((x ≡ p) × (y ≡ q)) ⊎ ((x ≡ q) × (y ≡ p))
 both_targets p q x y d e n = grind (arith, nat_tests)
 
--- a normal test that isn't executed leaves both
+-- A normal test that isn't executed leaves both.
 normal_same_targets : (p q g x y : ℕ) (f : Pairs) (r : Registers) → holds r g ≡ false → AreNeverBothOne f r → is_target p q x ≡ true → is_target p q y ≡ true → x ≢ y → is_met (normal_targets p q g) f ≡ true → holds r x ≡ true → holds r y ≡ true → ⊥
 normal_same_targets p q g x y f r off a d e n m h k = by_guard (g == 0) refl m
   where
@@ -50,7 +50,7 @@ test_off cmp.Or p q g f r off n a = or_same p q g f r a
 test_off cmp.And p q g f r off n a = and_same p q g f r a
 test_off cmp.OrAndcm p q g f r off n a = or_andcm_same p q g f r a
 
--- what two writes of a test leave
+-- What two writes of a test leave.
 pub record TestWritten (r : Registers) (p q : ℕ) (b c : Bool) (now : Registers) : Type 0 where
   pub other : (x : ℕ) → x < 64 → is_target p q x ≡ false → holds now x ≡ holds r x
   pub target : (x : ℕ) → is_target p q x ≡ true → ((x ≡ p) × (holds now x ≡ b)) ⊎ ((x ≡ q) × (holds now x ≡ c))
@@ -60,7 +60,7 @@ module _ (p q g : ℕ) (b c : Bool) (f : Pairs) (r now : Registers) (w : TestWri
   unwritten : (x : ℕ) → x < 64 → is_target p q x ≡ false → holds now x ≡ true → holds r x ≡ true
   unwritten x i d h = sym (w.other x i d) ∙ h
 
-  -- both don't become 1
+  -- Both don't become 1.
   targets_apart : (b ≡ true → c ≡ true → ⊥) → (x y : ℕ) → is_target p q x ≡ true → is_target p q y ≡ true → x ≢ y → holds now x ≡ true → holds now y ≡ true → ⊥
   targets_apart differ x y d e n h k = of (w.target x d) (w.target y e)
     where
@@ -70,7 +70,7 @@ module _ (p q g : ℕ) (b c : Bool) (f : Pairs) (r now : Registers) (w : TestWri
       of (inr (u, i)) (inl (v, j)) = differ (sym j ∙ k) (sym i ∙ h)
       of (inr (u, i)) (inr (v, j)) = n (u ∙ sym v)
 
-  -- both become 0
+  -- Both become 0.
   target_cleared : b ≡ false → c ≡ false → (x : ℕ) → is_target p q x ≡ true → holds now x ≡ true → ⊥
   target_cleared i j x d h = of (w.target x d)
     where

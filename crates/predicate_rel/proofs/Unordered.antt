@@ -23,14 +23,14 @@ record KeepsOrder (r : ℕ → ℕ → PairRule) (f : Pairs) : Type 0 where
   swaps : (x y : ℕ) → is_met (r x y) f ≡ is_met (r y x) f
   alone : (x : ℕ) → is_met (r x x) f ≡ is_met (r x 0) f
 
--- a predicate and itself may be swapped, so `swaps` is to be shown of two different ones
+-- A predicate and itself may be swapped, so `swaps` is to be shown of two different ones.
 swaps_apart : (r : ℕ → ℕ → PairRule) (f : Pairs) → ((x y : ℕ) → x ≢ y → is_met (r x y) f ≡ is_met (r y x) f) → (x y : ℕ) → is_met (r x y) f ≡ is_met (r y x) f
 swaps_apart r f apart x y = elim (cases_eq x y) [
   | inl e ↦ ap (λ (k : ℕ). is_met (r k y) f) e ∙ sym (ap (λ (k : ℕ). is_met (r y k) f) e)
   | inr ne ↦ apart x y ne
 ]
 
--- the partners of different predicates, of a written one and itself, and of one that isn't written
+-- The partners of different predicates, of a written one and itself, and of one that isn't written.
 partner_apart : (t : ℕ → Bool) (x y : ℕ) → x ≢ y → partner t x y ≡ y
 partner_apart t x y ne = rw (ne_eqb x y ne) (by_bool (t x))
   where
@@ -51,7 +51,7 @@ partner_zero t x = by_bool (t x && eqb x 0)
 partner_kept : (t : ℕ → Bool) (x y : ℕ) → t x ≡ false → partner t x y ≡ y
 partner_kept t x y e = rw e refl
 
--- what is kept depends on the order of its own pair alone
+-- What is kept depends on the order of its own pair alone.
 kept_swaps : (k : Kept) (g x y u : ℕ) (f : Pairs) → IsUnordered f → is_met (kept_rule k g x y u) f ≡ is_met (kept_rule k g y x u) f
 kept_swaps Own g x y u f un = un.swaps x y
 kept_swaps Guard g x y u f un = refl
@@ -64,7 +64,7 @@ choice_swaps true false r r' s s' t t' n n' f h i j k = i
 choice_swaps false true r r' s s' t t' n n' f h i j k = j
 choice_swaps false false r r' s s' t t' n n' f h i j k = k
 
--- the rules of tests and moves, where the rule of two written predicates says the same of both orders
+-- The rules of tests and moves, where the rule of two written predicates says the same of both orders.
 written_keeps : (t : ℕ → Bool) (both : ℕ → ℕ → PairRule) (kept : ℕ → Kept) (g : ℕ) (f : Pairs) → t 0 ≡ false → ((x y : ℕ) → is_met (both x y) f ≡ is_met (both y x) f) → IsUnordered f → KeepsOrder (written_rule t both kept g) f
 written_keeps t both kept g f zero same un = record {
   swaps = swaps_apart (written_rule t both kept g) f (λ x y ne.
@@ -78,7 +78,7 @@ written_keeps t both kept g f zero same un = record {
     by_bool x true e = rw (partner_same t x e, partner_zero t x) (rw (e, zero) refl)
     by_bool x false e = rw (partner_kept t x x e, partner_zero t x) (rw (e, zero) (un.alone x))
 
--- the rules of or-compares and moves, of all tests, of branches and of rotations
+-- The rules of or-compares and moves, of all tests, of branches and of rotations.
 raised_keeps : (t : ℕ → Bool) (g : ℕ) (f : Pairs) → t 0 ≡ false → IsUnordered f → KeepsOrder (raised_rule t g) f
 raised_keeps t g f zero un = written_keeps t (λ a b. two a b g 0) (λ _. Both) g f zero (λ x y. ap (λ (b : Bool). b && f g 0) (un.swaps x y)) un
 
@@ -86,7 +86,7 @@ twice : (b : Bool) → (b && b) ≡ (b && true)
 twice true = refl
 twice false = refl
 
--- the rule of a pair that stays
+-- The rule of a pair that stays.
 one_keeps : (f : Pairs) → IsUnordered f → KeepsOrder one f
 one_keeps f un = record { swaps = un.swaps; alone = un.alone }
 
@@ -97,7 +97,7 @@ test_keeps cmp.Or p1 p2 g f un = raised_keeps (is_target p1 p2) g f refl un
 test_keeps cmp.And p1 p2 g f un = one_keeps f un
 test_keeps cmp.OrAndcm p1 p2 g f un = written_keeps (is_target p1 p2) one (or_andcm_kept p1) g f refl un.swaps un
 
--- a rule that is a choice between two that keep order
+-- A rule that is a choice between two that keep order.
 choice_keeps : (test : ℕ → ℕ → Bool) (r s : ℕ → ℕ → PairRule) (f : Pairs) → ((x y : ℕ) → test x y ≡ test y x) → ((x : ℕ) → test x x ≡ test x 0) → KeepsOrder r f → KeepsOrder s f → KeepsOrder (λ x y. cond (test x y) (r x y) (s x y)) f
 choice_keeps test r s f order alone k m = record {
   swaps = λ x y. ap (λ (b : Bool). is_met (cond b (r x y) (s x y)) f) (order x y) ∙ by_bool (test y x) (r x y) (r y x) (s x y) (s y x) (k.swaps x y) (m.swaps x y);
@@ -108,7 +108,7 @@ choice_keeps test r s f order alone k m = record {
     by_bool true r r' s s' h i = h
     by_bool false r r' s s' h i = i
 
--- a rule that is the same for all pairs
+-- A rule that is the same for all pairs.
 same_keeps : (r : PairRule) (f : Pairs) → KeepsOrder (λ _ _. r) f
 same_keeps r f = record { swaps = λ x y. refl; alone = λ x. refl }
 
@@ -172,7 +172,7 @@ action_keeps (action.ClearBases pred_only) edge g f un = static_keeps f un
 action_keeps (action.Loop kind disp) edge g f un = loop_keeps kind edge f un
 action_keeps a edge g f un = one_keeps f un
 
--- the law
+-- The law.
 pub after_unordered : (f : Pairs) (i : Insn) (e : Edge) → IsUnordered f → IsUnordered (pairs_after f i e)
 unfolding pairs_after rule_of in_range
 after_unordered f i e un = let k = action_keeps (action_of i.op) e i.qp f un in record {
@@ -180,7 +180,7 @@ after_unordered f i e un = let k = action_keeps (action_of i.op) e i.qp f un in 
   alone = λ x. ap (λ (b : Bool). (nat_lt x 64 && nat_lt x 64) && b) (k.alone x) ∙ ap (λ (b : Bool). b && is_met (rule_of i e x 0) f) (twice (nat_lt x 64));
 }
 
--- the set without a pair, a meet, and a set with one pair more
+-- The set without a pair, a meet, and a set with one pair more.
 pub none_unordered : IsUnordered no_pairs
 unfolding no_pairs
 none_unordered = record { swaps = λ x y. refl; alone = λ x. refl }

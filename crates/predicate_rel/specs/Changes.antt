@@ -7,7 +7,7 @@ use Rattle.predicate_rel.specs.Rules.{PairRule, pairs_by}
 pub record AgreeOutside (changed : ℕ) (f g : Pairs) : Type 0 where
   pub same : (x y : ℕ) → has_bit changed x ≡ false → f x y ≡ g x y
 
--- the word has the bit of each row
+-- The word has the bit of each row.
 abbrev pub HasAllRows : ℕ → Type 0
 HasAllRows changed = (x : ℕ) → x < 64 → has_bit changed x ≡ true
 

@@ -17,8 +17,8 @@ use Rattle.predicate_rel.specs.declared.edge.Edge.TheVariants.{Falls, Taken}
 use Rattle.predicate_rel.specs.Pairs.{Pairs}
 use Rattle.predicate_rel.specs.Rules.{pairs_after}
 
--- a `br.cond`, `br.call` or `br.ret`, direct or indirect, or a `break`: where its qualifying predicate is 1, control
--- doesn't fall through
+-- A `br.cond`, `br.call` or `br.ret`, direct or indirect, or a `break`: where its qualifying predicate is 1, control
+-- doesn't fall through.
 abbrev pub leaves : Action → Bool
 leaves (Jump disp) = true
 leaves (JumpIndirect b2) = true
@@ -31,7 +31,7 @@ leaves action = false
 abbrev pub may_fall : Insn → Bool
 may_fall insn = not ((insn.qp == 0) && leaves (insn_action insn))
 
--- how many bundles from its own the target of a direct branch, loop branches among them, or of a check is
+-- How many bundles from its own the target of a direct branch, loop branches among them, or of a check is.
 abbrev pub displacement_of : Action → Option ℤ
 displacement_of (CheckNat r2 disp) = Some disp
 displacement_of (CheckAlat clear r1 disp) = Some disp
@@ -45,7 +45,7 @@ abbrev pub target_at : ℕ → Option ℤ → Option Place
 target_at bundle None = None
 target_at bundle (Some disp) = Some (first_of (target_of bundle disp))
 
--- by the instruction at the place
+-- By the instruction at the place.
 abbrev pub edge_of : List Bundle → Place → Option Insn → Edge → Option Place
 edge_of bundles from None e = None
 edge_of bundles from (Some insn) Falls = if may_fall insn then next_of bundles from else None
@@ -63,11 +63,11 @@ pub record HasEdge (p : Program) (from : Place) (e : Edge) (to : Place) : Type 0
   pub leads : edge_end p.bundles from e ≡ Some to
   pub lands : IsPlaceOf p.bundles to
 
--- what is known past an instruction
+-- What is known past an instruction.
 abbrev pub pairs_past_insn : Option Insn → Edge → Pairs → Pairs
 pairs_past_insn None e f = f
 pairs_past_insn (Some insn) e f = pairs_after f insn e
 
--- what is known past the instruction at a place, on the way along an edge; before it, the pairs f are known
+-- What is known past the instruction at a place, on the way along an edge; before it, the pairs f are known.
 unfoldable pub pairs_past : Program → Place → Edge → Pairs → Pairs
 pairs_past p place e f = pairs_past_insn (insn_at p.bundles place) e f

@@ -6,7 +6,7 @@ use Rattle.ia_meaning.specs.Arithmetic.{bit}
 abbrev pub Pairs : Type 0
 Pairs = ℕ → ℕ → Bool
 
--- what contracts see of `Facts`: 64 rows of 64 bits
+-- What contracts see of `Facts`: 64 rows of 64 bits.
 abbrev pub Table : Type 0
 Table = List ℕ
 
@@ -14,11 +14,11 @@ Table = List ℕ
 unfoldable pub in_range : ℕ → ℕ → Bool
 in_range x y = nat_lt x 64 && nat_lt y 64
 
--- no pair
+-- No pair.
 unfoldable pub no_pairs : Pairs
 no_pairs = λ x y. false
 
--- the pairs that both have
+-- The pairs that both have.
 unfoldable pub common : Pairs → Pairs → Pairs
 common f g = λ x y. f x y && g x y
 
@@ -26,23 +26,23 @@ common f g = λ x y. f x y && g x y
 abbrev pub other_of : ℕ → ℕ → ℕ
 other_of x y = if x == y then 0 else y
 
--- the two pairs are one, in either order
+-- The two pairs are one, in either order.
 abbrev pub is_same_pair : ℕ → ℕ → ℕ → ℕ → Bool
 is_same_pair a b x y = (x == a && y == b) || (x == b && y == a)
 
--- the pairs of f and that of a and b
+-- The pairs of f and that of a and b.
 unfoldable pub with_pair : Pairs → ℕ → ℕ → Pairs
 with_pair f a b = λ x y. f x y || is_same_pair a (other_of a b) x (other_of x y)
 
--- a bit of a row
+-- A bit of a row.
 unfoldable pub has_bit : ℕ → ℕ → Bool
 has_bit row y = bit row y
 
--- the truth value at row x and column y
+-- The truth value at row x and column y.
 abbrev pub truth : Table → ℕ → ℕ → Bool
 truth rows x y = has_bit (slice_index rows x) y
 
--- the pairs of a table
+-- The pairs of a table.
 unfoldable pub pairs_of : Table → Pairs
 pairs_of rows = λ x y. in_range x y && truth rows x y
 
@@ -50,7 +50,7 @@ pairs_of rows = λ x y. in_range x y && truth rows x y
 pub record IsWithin (f g : Pairs) : Type 0 where
   pub each : (x y : ℕ) → f x y ≡ true → g x y ≡ true
 
--- some pair of f is not in g
+-- Some pair of f is not in g.
 pub record HasMore (f g : Pairs) : Type 0 where
   pub first : ℕ
   pub second : ℕ
@@ -59,7 +59,7 @@ pub record HasMore (f g : Pairs) : Type 0 where
   pub there : f first second ≡ true
   pub missing : g first second ≡ false
 
--- the order of a pair says nothing, and (x, x) stands for (x, p0)
+-- The order of a pair says nothing, and (x, x) stands for (x, p0).
 pub record IsUnordered (f : Pairs) : Type 0 where
   pub swaps : (x y : ℕ) → f x y ≡ f y x
   pub alone : (x : ℕ) → f x x ≡ f x 0

@@ -5,11 +5,11 @@ use Rattle.predicate_rel.specs.declared.edge.Edge.{Edge}
 use Rattle.predicate_rel.specs.Pairs.{Pairs, has_bit}
 use Rattle.predicate_rel.specs.Rules.{PairRule, is_met, action_rule}
 
--- the bits of a row are the answers of a test
+-- The bits of a row are the answers of a test.
 abbrev pub HasBits : ℕ → (ℕ → Bool) → Type 0
 HasBits row test = (y : ℕ) → y < 64 → has_bit row y ≡ test y
 
--- the bits of a row are there where the rules are met
+-- The bits of a row are there where the rules are met.
 abbrev pub IsRow : ℕ → (ℕ → PairRule) → Pairs → Type 0
 IsRow row rules f = (y : ℕ) → y < 64 → has_bit row y ≡ is_met (rules y) f
 

@@ -23,7 +23,7 @@ pub data PairRule : Type 0 where
   one : ℕ → ℕ → PairRule
   two : ℕ → ℕ → ℕ → ℕ → PairRule
 
--- the set before the instruction has what the rule asks for
+-- The set before the instruction has what the rule asks for.
 abbrev pub is_met : PairRule → Pairs → Bool
 is_met always f = true
 is_met never f = false
@@ -36,14 +36,14 @@ kept_rule Own g x y u = one x y
 kept_rule Guard g x y u = one g u
 kept_rule Both g x y u = two x y g u
 
--- a choice by whether the first and the second of a pair are written
+-- A choice by whether the first and the second of a pair are written.
 abbrev pub by_written : Bool → Bool → (both first second neither : PairRule) → PairRule
 by_written true true both first second neither = both
 by_written true false both first second neither = first
 by_written false true both first second neither = second
 by_written false false both first second neither = neither
 
--- the second of a pair: (x, x) stands for (x, p0), where x is written
+-- The second of a pair: (x, x) stands for (x, p0), where x is written.
 abbrev pub partner : (ℕ → Bool) → ℕ → ℕ → ℕ
 partner is_written x y = if is_written x && x == y then 0 else y
 
@@ -55,7 +55,7 @@ written_rule is_written both kept g x y =
     (kept_rule (kept x) g x (partner is_written x y) (partner is_written x y))
     (kept_rule (kept y) g x y x) (one x y)
 
--- a test writes its targets, but for p0
+-- A test writes its targets, but for p0.
 abbrev pub is_target : ℕ → ℕ → ℕ → Bool
 is_target p1 p2 x = not (x == 0) && (x == p1 || x == p2)
 
@@ -85,7 +85,7 @@ test_rule cmp.Or p1 p2 g x y = raised_rule (is_target p1 p2) g x y
 test_rule cmp.And p1 p2 g x y = one x y
 test_rule cmp.OrAndcm p1 p2 g x y = written_rule (is_target p1 p2) one (or_andcm_kept p1) g x y
 
--- a move to the predicates writes those under its mask, but for p0
+-- A move to the predicates writes those under its mask, but for p0.
 abbrev pub is_moved : ℕ → ℕ → Bool
 is_moved mask x = not (x == 0) && is_masked mask x
 
@@ -101,7 +101,7 @@ falls_rule g x y = if x == g || y == g || (x == y && g == 0) then always else on
 abbrev pub static_rule : (x y : ℕ) → PairRule
 static_rule x y = if nat_lt x 16 && nat_lt y 16 then one x y else never
 
--- the name before a rotation of what is named x after it, which isn't p16
+-- The name before a rotation of what is named x after it, which isn't p16.
 abbrev pub name_before : ℕ → ℕ
 name_before x = if nat_lt x 16 then x else (x - 1)
 
@@ -137,14 +137,14 @@ action_rule (action.ClearBases pred_only) edge g x y = static_rule x y
 action_rule (action.Loop kind disp) edge g x y = loop_rule kind edge x y
 action_rule f edge g x y = one x y
 
--- the rule of a pair
+-- The rule of a pair.
 unfoldable pub rule_of : Insn → Edge → ℕ → ℕ → PairRule
 rule_of insn edge x y = action_rule (insn_action insn) edge insn.qp x y
 
--- the pairs of predicates whose rules are met
+-- The pairs of predicates whose rules are met.
 abbrev pub pairs_by : Pairs → (ℕ → ℕ → PairRule) → Pairs
 pairs_by f rules = λ x y. in_range x y && is_met (rules x y) f
 
--- the pairs after an instruction
+-- The pairs after an instruction.
 unfoldable pub pairs_after : Pairs → Insn → Edge → Pairs
 pairs_after f insn edge = pairs_by f (rule_of insn edge)

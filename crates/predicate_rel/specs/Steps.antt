@@ -21,11 +21,11 @@ abbrev pub edge_by : Option How → Edge
 edge_by (Some how.Taken) = Taken
 edge_by h = Falls
 
--- the step follows an edge of the program, of this sort
+-- The step follows an edge of the program, of this sort.
 abbrev pub FollowsEdge : Program → State → Type 0
 FollowsEdge p s = HasEdge p s.place (edge_by (seq_step p s).how) (seq_step p s).state.place
 
--- an indirect branch, a return or an indirect call
+-- An indirect branch, a return or an indirect call.
 abbrev pub IsIndirect : Insn → Type 0
 IsIndirect insn = IsTrue (is_indirect (insn_action insn))
 

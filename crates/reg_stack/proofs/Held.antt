@@ -56,7 +56,7 @@ resident_set ring region low high c cell len above below near =
 
 -- ---- another frame
 
--- what is known once the cells have been moved
+-- What is known once the cells have been moved.
 pub record HasMoved (ring0 ring1 ring2 : List Cell) (region0 region1 region2 : List ℕ) (low top to high end : ℕ) : Type 0 where
   pub spilled : (c : ℕ) → held_cell ring0 region1 top c ≡ held_cell ring0 region0 low c
   pub filled : (c : ℕ) → c < end → held_cell ring1 region2 to c ≡ held_cell ring0 region1 top c

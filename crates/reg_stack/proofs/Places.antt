@@ -22,15 +22,15 @@ value_ne_value c d h = omega arith
 pub value_below_nat : (c : ℕ) → value_word c < nat_word c
 value_below_nat c = omega arith
 
--- two cells with one word of NaT bits have different bits there
+-- Two cells with one word of NaT bits have different bits there.
 pub bit_ne_bit : (c d : ℕ) → d ≢ c → d / 63 ≡ c / 63 → d % 63 ≢ c % 63
 bit_ne_bit c d h e = omega arith
 
--- the place of a cell whose turn round the ring is known
+-- The place of a cell whose turn round the ring is known.
 pub place_in_turn : (c first : ℕ) → c / 96 ≡ first / 96 → c - 96 * (first / 96) ≡ c % 96
 place_in_turn c first h = omega arith
 
--- two cells less than 96 apart have different places in the ring
+-- Two cells less than 96 apart have different places in the ring.
 pub ring_ne_ring : (c d : ℕ) → c < d → d < c + 96 → d % 96 ≢ c % 96
 ring_ne_ring c d h k = omega arith
 
@@ -45,7 +45,7 @@ cell_is a b h k =
     let g : Bool → Cell = λ n. record { value = b.value; nat = n } in
     ap f h ∙ ap g k
 
--- the region after one cell is written in it
+-- The region after one cell is written in it.
 pub record IsPut (old new : List ℕ) (c : ℕ) (cell : Cell) : Type 0 where
   pub count : length new ≡ length old
   pub this : spilled_cell new c ≡ cell
@@ -67,7 +67,7 @@ at_other : (region : List ℕ) (c value nats k : ℕ) → k ≢ value_word c →
 unfolding written
 at_other region c value nats k h j = get_or-set_other (set region (value_word c) value) (nat_word c) k nats 0 j ∙ get_or-set_other region (value_word c) k value 0 h
 
--- what a write of a bit does to a word
+-- What a write of a bit does to a word.
 pub record IsBitPut (old new b : ℕ) (bit : Bool) : Type 0 where
   pub this : (bit_at new b == 1) ≡ bit
   pub others : (i : ℕ) → i < 64 → i ≢ b → bit_at new i ≡ bit_at old i
@@ -104,14 +104,14 @@ put_is region c cell nats h put =
 
 -- ---- a cell of a run, whose NaT collection is written at the end of the run
 
--- the region once the NaT collection of a cell is written
+-- The region once the NaT collection of a cell is written.
 abbrev pub with_nats : List ℕ → ℕ → ℕ → List ℕ
 with_nats region c nats = set region (nat_word c) nats
 
 pub same_nats : (region : List ℕ) (c d nats : ℕ) → d / 63 ≡ c / 63 → with_nats region d nats ≡ with_nats region c nats
 same_nats region c d nats e = ap (λ n. set region (64 * n + 63) nats) e
 
--- the value of a cell there, and its NaT bit in the collection that is to be written
+-- The value of a cell there, and its NaT bit in the collection that is to be written.
 pub spilled_in_run : (region : List ℕ) (c nats : ℕ) → nat_word c < length region → spilled_cell (with_nats region c nats) c ≡ record { value = get_or region (value_word c) 0; nat = bit_at nats (c % 63) == 1 }
 unfolding spilled_cell
 spilled_in_run region c nats h = cell_is _ _ (get_or-set_other region (nat_word c) (value_word c) nats 0 (value_ne_nat c c)) (ap (λ x. bit_at x (c % 63) == 1) (get_or-set_same region (nat_word c) nats 0 h))

@@ -20,7 +20,7 @@ use Rattle.reg_stack.proofs.Resizing.{get_or-resized}
 
 -- ---- a cell below each frame keeps what it holds
 
--- a place from cell n on, or none of the stack
+-- A place from cell n on, or none of the stack.
 abbrev pub IsPlaceFrom : ℕ → Option Spot → Type 0
 IsPlaceFrom n None = Unit {0}
 IsPlaceFrom n (Some (Static k)) = Unit {0}
@@ -80,7 +80,7 @@ limit_stays (next ∷ rest) s = limit_stays rest (after_call s next) ∙ limit_a
 
 -- ---- the frame of a marker
 
--- the fields of a marker, lowest first
+-- The fields of a marker, lowest first.
 marker_parts : (sof sol sor gr fr pr : ℕ) → sof < 2 ^ 7 → sol < 2 ^ 7 → sor < 2 ^ 4 → gr < 2 ^ 7 → fr < 2 ^ 7 → pr < 2 ^ 6
     → let m = sof + 2 ^ 7 * sol + 2 ^ 14 * sor + 2 ^ 18 * gr + 2 ^ 25 * fr + 2 ^ 32 * pr in
     (m % 2 ^ 7 ≡ sof) × ((m / 2 ^ 7) % 2 ^ 7 ≡ sol) × ((m / 2 ^ 14) % 2 ^ 4 ≡ sor) × ((m / 2 ^ 18) % 2 ^ 7 ≡ gr) × ((m / 2 ^ 25) % 2 ^ 7 ≡ fr) × ((m / 2 ^ 32) % 2 ^ 6 ≡ pr)

@@ -20,7 +20,7 @@ use Rattle.resource_sets.specs.ResourceSets.{has_resource}
 use Rattle.resource_sets.specs.AccessSets.{IsInSet, IsSetOf, placed_kind}
 use Rattle.resource_sets.proofs.Members.{not_in_none, cases_in, any_of, some_of}
 
--- resources that pass the test are one
+-- Resources that pass the test are one.
 pub same_resource : (a b : Resource) → is_resource a b ≡ true → a ≡ b
 same_resource (Gr n) (Gr k) e = ap Gr (eqb-true n k e)
 same_resource (Pr n) (Pr k) e = ap Pr (eqb-true n k e)
@@ -42,7 +42,7 @@ resource_itself Lc = refl
 resource_itself Ec = refl
 resource_itself Cfm = refl
 
--- accesses of one kind and under one guard are the set of their resources
+-- Accesses of one kind and under one guard are the set of their resources.
 pub set_of : (accesses : List Access) (s : AccessSet) → ((a : Access) → Contains accesses a → (s.kind ≡ a.kind) × (s.guard ≡ a.guard))
     → ((q : Resource) → has_resource s.resources q ≡ list_any (λ a. is_resource a.resource q) accesses) → IsSetOf accesses s
 set_of accesses s alike on = record {
@@ -61,12 +61,12 @@ set_of accesses s alike on = record {
       subst (Contains accesses) is c;
 }
 
--- rows of one kind under the qualifying predicate
+-- Rows of one kind under the qualifying predicate.
 abbrev pub AreAlike : Kind → List AccessRow → Type 0
 AreAlike kind [] = Unit {0}
 AreAlike kind (row ∷ rows) = (row.kind ≡ kind) × (row.guarded ≡ true) × AreAlike kind rows
 
--- their accesses differ by their resources
+-- Their accesses differ by their resources.
 pub in_alike : (qp : ℕ) (kind : Kind) (rows : List AccessRow) → AreAlike kind rows → (a : Access) → Contains (listed qp rows) a → (kind ≡ a.kind) × (qp ≡ a.guard)
 in_alike qp kind [] alike a c = absurd (not_in_none a c)
 in_alike qp kind (row ∷ rows) alike a c = of row.there c (in_alike qp kind rows alike.2 a)
@@ -78,12 +78,12 @@ in_alike qp kind (row ∷ rows) alike a c = of row.there c (in_alike qp kind row
     ]
     of false d rest = rest d
 
--- the rows of predicates by place are alike
+-- The rows of predicates by place are alike.
 place_alike : (left n mask : ℕ) (kind : Kind) → AreAlike kind (place_rows left n mask kind)
 place_alike zero n mask kind = tt
 place_alike (suc left) n mask kind = (refl, refl, place_alike left (suc n) mask kind)
 
--- what an action of this kind by place asks of its rows
+-- What an action of this kind by place asks of its rows.
 abbrev pub ArePlaced : Option Kind → List AccessRow → Type 0
 ArePlaced None rows = rows ≡ []
 ArePlaced (Some kind) rows = AreAlike kind rows

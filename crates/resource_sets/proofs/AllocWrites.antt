@@ -32,21 +32,21 @@ skip_allocated : (s : Site) (action : Action) (v : Registers) (m : Memory) → i
 skip_allocated s (Allocate r1 sof sol sor) v m e = record { spills = refl; ways = inl refl }
 skip_allocated s action v m e = absurd (true≢false (sym e))
 
--- an `alloc` writes its frame first
+-- An `alloc` writes its frame first.
 pub frame_first : AllocWritesItsFrameFirst
 frame_first s insn v m x e =
     let action : Action = action_of insn.op in
     guarded_cases (IsAllocated (naming_frame action v.frame)) s insn.qp action v m x (λ _. act_allocated s action v m x e)
     (λ _. skip_allocated s action v m e)
 
--- the rename base of general registers stays below a rotating part that changes only where it is 0
+-- The rename base of general registers stays below a rotating part that changes only where it is 0.
 base_below : (f : FrameShape) (sor : ℕ) → IsFrame f → (f.sor ≡ sor) ⊎ (has_zero_bases f ≡ true)
     → (f.rrbs.gr < 8 * sor) ⊎ (f.rrbs.gr ≡ 0)
 unfolding has_zero_bases
 base_below f sor frame (inl same) = let below = frame.general in rw (← same) below
 base_below f sor frame (inr zero) = inr (grind (arith, nat_tests))
 
--- a frame of these sizes
+-- A frame of these sizes.
 resized_frame : (f : FrameShape) (sof sol sor : ℕ) → IsFrame f → (sof ≤ 96) × (sol ≤ sof) × (8 * sor ≤ sof)
     → (f.sor ≡ sor) ⊎ (has_zero_bases f ≡ true) → IsFrame (with_sizes f sof sol sor)
 resized_frame f sof sol sor frame sizes bases = record {
@@ -73,7 +73,7 @@ skip_frame : (s : Site) (action : Action) (v : Registers) (m : Memory) → is_al
 skip_frame s (Allocate r1 sof sol sor) v m e = inl refl
 skip_frame s action v m e = absurd (true≢false (sym e))
 
--- the frame that a listed `alloc` writes has the sizes and bases of a frame
+-- The frame that a listed `alloc` writes has the sizes and bases of a frame.
 pub new_frame : AllocatedFramesAreFrames
 new_frame s insn v m x e listed frame =
     let action : Action = action_of insn.op in

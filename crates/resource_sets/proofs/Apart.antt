@@ -183,7 +183,7 @@ skip_apart s qp (Test kind p1 p2 r2 r3 c) v m frame l = (λ _. two_predicates v.
 skip_apart s qp (Loop kind disp) v m frame l = either_way (turn_apart (turn_of kind false v.lc v.ec) v.frame)
 skip_apart s qp action v m frame l = tt
 
--- no two writes of a listed instruction go to one location
+-- No two writes of a listed instruction go to one location.
 pub apart : WritesAreApart
 apart s insn v m x listed frame =
     let action : Action = action_of insn.op in

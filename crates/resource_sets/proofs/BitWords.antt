@@ -28,14 +28,14 @@ pub or_false : (b : Bool) → (b || false) ≡ b
 or_false true = refl
 or_false false = refl
 
--- a word with one more bit
+-- A word with one more bit.
 pub bit_more : (w : Width) (a k y : ℕ) → k < bits w → bit (bit_or a (1 * 2 ^ k % 2 ^ bits w)) y ≡ (bit a y || eqb y k)
 bit_more w a k y l = elim (cases_eq y k) [
   | inl e ↦ rw (eq-eqb y k e) (rw e (eq-eqb _ 1 (bit_at_set_same w a k l)) ∙ sym (or_right (bit a y) true refl))
   | inr e ↦ rw (ne_eqb y k e) (ap (λ (v : ℕ). eqb v 1) (bit_at_set_other w a k l y e) ∙ sym (or_false (bit a y)))
 ]
 
--- a word of one bit
+-- A word of one bit.
 pub one_bit : (k y : ℕ) → k < 64 → bit (1 * 2 ^ k % 2 ^ 64) y ≡ eqb k y
 one_bit k y l = ap (λ (n : ℕ). bit n y) (one_shl k 64 l) ∙ (elim (cases_eq k y) [
   | inl e ↦ rw e (eq-eqb (bit_at (2 ^ y) y) 1 (bit_at-pow_same y) ∙ sym (eq-eqb y y refl))

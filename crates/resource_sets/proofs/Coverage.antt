@@ -61,7 +61,7 @@ module _ (qp : ℕ) (f : Action) (a : Access) where
   unfolding rows
   in_placed h = has_right qp a (rows_by_name qp f) (placed_rows f) h
 
--- an access under a guard
+-- An access under a guard.
 abbrev under : ℕ → Resource → Kind → Access
 under guard q kind = record { resource = q; kind = kind; guard = guard }
 
@@ -70,7 +70,7 @@ module _ (qp : ℕ) (f : Action) (v : Registers) where
       → location_of (naming_frame f v.frame) a.resource ≡ Some (location w) → MayPut a.kind w → IsCovered qp f v w
   row_covered a w h i g n p = record { access = a; has = h; writing = i; guarded = g; names = n; puts = p }
 
-  -- a plain write under the qualifying predicate
+  -- A plain write under the qualifying predicate.
   own_covered : (q : Resource) (w : Write) → holds v qp ≡ true → HasRow qp (under qp q Writes) (own_rows f)
       → location_of (naming_frame f v.frame) q ≡ Some (location w) → IsCovered qp f v w
   own_covered q w g h n = row_covered (under qp q Writes) w (in_own qp f (under qp q Writes) h) refl g n tt
@@ -132,7 +132,7 @@ second_writes : (kind : CmpKind) → writes_registers (second_kind kind) ≡ tru
 second_writes Normal = refl
 second_writes kind = refl
 
--- target t of the test of p and q is accessed so
+-- Target t of the test of p and q is accessed so.
 abbrev TargetRow : (qp : ℕ) → CmpKind → (p q t : ℕ) → Kind → Type 0
 TargetRow qp kind p q t k = HasRow qp (under (test_guard kind qp) (Pr t) k) (test_rows kind p q)
 
@@ -244,7 +244,7 @@ pub each_rotation : (P : Write → Type 0) (f : FrameShape) (t : Bool) → P (Se
     → Each P (if t then SetFrame Renamed (rotated f) ∷ [] else [])
 each_rotation P f t h = may_write (Each P) t _ [] (λ _. (h, tt)) tt
 
--- while loops leave LC
+-- While loops leave LC.
 while_lc : (top held : Bool) (ec : ℕ) → (while_turn top held ec).lc ≡ None
 while_lc top true ec = refl
 while_lc top false zero = refl
@@ -258,7 +258,7 @@ module _ (qp : ℕ) (kind : BranchKind) (disp : ℤ) (v : Registers) where
   abbrev loop_action : Action
   loop_action = Loop kind disp
 
-  -- an access of a loop branch is under p0
+  -- An access of a loop branch is under p0.
   loop_write_covered : (q : Resource) (k : Kind) (w : Write) → HasRow qp (under 0 q k) (own_rows loop_action)
       → writes_registers k ≡ true → location_of v.frame q ≡ Some (location w) → MayPut k w → IsCovered qp loop_action v w
   loop_write_covered q k w h i n p =
@@ -267,7 +267,7 @@ module _ (qp : ℕ) (kind : BranchKind) (disp : ℤ) (v : Registers) where
   count_covered : HasRow qp (under 0 Lc Writes) (own_rows loop_action) → (x : ℕ) → IsCovered qp loop_action v (SetLc x)
   count_covered h x = loop_write_covered Lc Writes (SetLc x) h refl refl tt
 
-  -- one that rotates, given its write of LC
+  -- One that rotates, given its write of LC.
   rotating_covered : (t : Turn) → ((a : Access) → HasRow qp a rotating_rows → HasRow qp a (own_rows loop_action))
       → ((x : ℕ) → t.lc ≡ Some x → IsCovered qp loop_action v (SetLc x)) → Each (IsCovered qp loop_action v) (turn_writes t v.frame)
   rotating_covered t row lc =
@@ -399,7 +399,7 @@ skip_covered s qp (Test kind p1 p2 r2 r3 c) v m = (λ e. absurd (cc), λ _. tt)
 skip_covered s qp (Loop kind disp) v m = either_way (loop_covered qp kind disp v false v.lc v.ec)
 skip_covered s qp action v m = tt
 
--- each write of an instruction is covered by an access
+-- Each write of an instruction is covered by an access.
 pub covered : WritesAreAccesses
 covered s insn v m x base =
     let action : Action = action_of insn.op in
@@ -460,14 +460,14 @@ skip_spills s qp (Test kind p1 p2 r2 r3 c) v m = either_way no_spill
 skip_spills s qp (Loop kind disp) v m = either_way no_spill
 skip_spills s qp action v m = no_spill
 
--- a spill that is executed accesses UNAT so
+-- A spill that is executed accesses UNAT so.
 pub spills : SpillsAreAccesses
 spills s insn v m x b e =
     let action : Action = action_of insn.op in
     guarded_cases (Spills insn.qp action v) s insn.qp action v m x (act_spills s insn.qp action v m x)
     (λ _. skip_spills s insn.qp action v m) b e
 
--- a cell that is written lies in the frame
+-- A cell that is written lies in the frame.
 pub cells_inside : CellsAreInside
 cells_inside qp f v w n covered rotating at = by_resource covered.access.resource (covered.names ∙ ap Some at)
   where

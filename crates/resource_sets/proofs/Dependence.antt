@@ -34,7 +34,7 @@ use Rattle.resource_sets.specs.Rows.{is_named}
 use Rattle.resource_sets.specs.Accesses.{rows_by_name, is_fill, is_framed, any_framed, other_name, test_rows, loop_rows, qp_rows, reads_plainly, reads_as_branch, own_rows}
 use Rattle.resource_sets.specs.AccessLaws.{AgreesAtEach, AgreesByPlace, DependsOnAccesses}
 
--- r0 is 0
+-- r0 is 0.
 look_same : (v w : Registers) (r : ℕ) → (is_named r ≡ true → look v r ≡ look w r) → look v r ≡ look w r
 unfolding look
 look_same v w zero h = refl
@@ -95,7 +95,7 @@ record Parts (qp : ℕ) (f : Action) (v w : Registers) (x y : ℕ) : Type 0 wher
   reads : AgreesAtEach qp v w x y (own_rows f)
   placed : holds v qp ≡ true → AgreesByPlace f v w
 
--- the qualifying predicate is read in one way or the other
+-- The qualifying predicate is read in one way or the other.
 pub read_so : (f : Action) → (reads_plainly f ≡ true) ⊎ (reads_as_branch f ≡ true)
 read_so (Jump disp) = inr refl
 read_so (JumpIndirect b2) = inr refl
@@ -180,7 +180,7 @@ loop_same Ctop b qp bundle v w m x y h =
     let f : v.frame ≡ w.frame = h.1.1.1.1.0 refl (holds_zero v) in
     cc
 
--- an action that is executed
+-- An action that is executed.
 act_same : (s : Site) (qp : ℕ) (action : Action) (v w : Registers) (m : Memory) (x y : ℕ) → holds v qp ≡ true
     → Parts qp action v w x y → act s action v m x ≡ act s action w m y
 act_same s qp (Compute r1 r2 r3 f) v w m x y g h =
@@ -251,7 +251,7 @@ act_same s qp (ClearBases pred_only) v w m x y g h = let f : v.frame ≡ w.frame
 act_same s qp (Stop unit imm) v w m x y g h = refl
 act_same s qp (Idle unit) v w m x y g h = refl
 
--- one whose qualifying predicate is 0
+-- One whose qualifying predicate is 0.
 skip_same : (s : Site) (qp : ℕ) (action : Action) (v w : Registers) (m : Memory) (x y : ℕ) → Parts qp action v w x y
     → skip s action v m ≡ skip s action w m
 skip_same s qp (Test kind p1 p2 r2 r3 c) v w m x y h =
@@ -268,7 +268,7 @@ guarded_same s qp action v w m x y h = go (holds v qp) refl
     go true e = rw (e, sym h.guard ∙ e) (act_same s qp action v w m x y e h)
     go false e = rw (e, sym h.guard ∙ e) (skip_same s qp action v w m x y h)
 
--- what an instruction does is the same from registers that agree on its accesses
+-- What an instruction does is the same from registers that agree on its accesses.
 pub depends : DependsOnAccesses
 depends s insn v w m x y h =
     guarded_same s insn.qp (insn_action insn) v w m x y (parts insn.qp (insn_action insn) v w x y h.named h.placed)

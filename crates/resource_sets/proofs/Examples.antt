@@ -23,11 +23,11 @@ use Rattle.resource_sets.specs.Accesses.{mask_rows, rows, accesses}
 use Rattle.resource_sets.specs.Clashes.{clash_of, clash, may_write_guard}
 use Rattle.resource_sets.specs.Masks.{may_clash}
 
--- the accesses of an instruction under a qualifying predicate
+-- The accesses of an instruction under a qualifying predicate.
 abbrev of : ℕ → Op → List Access
 of qp o = accesses (record { qp = qp; op = o })
 
--- an access under a guard
+-- An access under a guard.
 abbrev by : ℕ → Resource → Kind → Access
 by guard resource kind = record { resource = resource; kind = kind; guard = guard }
 
@@ -46,7 +46,7 @@ computes :
 unfolding rows
 computes = (refl, refl, refl, refl)
 
--- r31 and p15 ask for no frame, in `add r31=r0,r0` and `(p15) add r31=r0,r0`; r32 does, in `add r31=r32,r0`
+-- r31 and p15 ask for no frame, in `add r31=r0,r0` and `(p15) add r31=r0,r0`; r32 does, in `add r31=r32,r0`.
 edges :
     (of 0 (op.Alu Add 31 0 0) ≡ by 0 (Gr 31) Write ∷ [])
     × (of 15 (op.Alu Add 31 0 0) ≡ by 0 (Pr 15) Read ∷ by 15 (Gr 31) Write ∷ [])

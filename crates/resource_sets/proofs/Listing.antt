@@ -45,7 +45,7 @@ listed_append qp (x ∷ xs) ys = by_row x.there (listed_append qp xs ys)
     by_row true e = ap (λ rest. access qp x ∷ rest) e
     by_row false e = e
 
--- the accesses by name, part by part
+-- The accesses by name, part by part.
 pub by_name : (qp : ℕ) (f : Action) → listed qp (rows_by_name qp f) ≡ (listed qp (frame_row qp f ∷ []) ++ listed qp (qp_rows qp f)) ++ listed qp (own_rows f)
 by_name qp f =
     listed_append qp (frame_row qp f ∷ []) (qp_rows qp f ++ own_rows f)
@@ -57,12 +57,12 @@ pub in_two : (qp : ℕ) (f : Action) → accesses_of qp f ≡ listed qp (rows_by
 unfolding rows
 in_two qp f = listed_append qp (rows_by_name qp f) (placed_rows f)
 
--- all, part by part
+-- All, part by part.
 pub in_parts : (qp : ℕ) (f : Action)
     → accesses_of qp f ≡ ((listed qp (frame_row qp f ∷ []) ++ listed qp (qp_rows qp f)) ++ listed qp (own_rows f)) ++ listed qp (placed_rows f)
 in_parts qp f = in_two qp f ∙ ap (λ x. x ++ listed qp (placed_rows f)) (by_name qp f)
 
--- the row of the n-th predicate, and those of the later ones
+-- The row of the n-th predicate, and those of the later ones.
 pub place_step : (old : List AccessRow) (n mask : ℕ) (kind : Kind) (row : AccessRow) → n < 64
     → row ≡ record { there = bit mask (min n 16); guarded = true; resource = Pr n; kind = kind }
     → old ++ place_rows (64 - n) n mask kind ≡ (old ++ row ∷ []) ++ place_rows (64 - (n + 1)) (n + 1) mask kind

@@ -47,11 +47,11 @@ one_spot (Some (Stacked n)) (Some (Stacked m)) t h k = let same : n ≡ m = cc i
 one_spot (Some (Static n)) (Some (Stacked m)) t h k = absurd (cc)
 one_spot (Some (Stacked n)) (Some (Static m)) t h k = absurd (cc)
 
--- no other resource stands there
+-- No other resource stands there.
 not_general : (s t : Location) → is_general s ≡ false → Some s ≡ Some t → is_general t ≡ true → ⊥
 not_general s t e h g = let same : s ≡ t = cc in true≢false (sym g ∙ ap is_general (sym same) ∙ e)
 
--- a location is that of one resource
+-- A location is that of one resource.
 pub resource_once : LocationIsOneResource
 resource_once f (Gr r) (Gr q) t frame i j h k =
     let at = one_spot (spot f r) (spot f q) t h k in ap Gr (spot_once f frame r q at.0 at.1 at.2)
@@ -67,7 +67,7 @@ resource_once f Ec Ec t frame i j h k = refl
 resource_once f Cfm Cfm t frame i j h k = refl
 resource_once f q r t frame i j h k = absurd (cc)
 
--- what stands at a predicate's place is a predicate
+-- What stands at a predicate's place is a predicate.
 pub predicate_at : IndexesAreOfPredicates
 predicate_at f (Pr p) n e = (p, refl)
 predicate_at f (Gr r) n e = absurd (true≢false (sym (general (spot f r) (PredicateAt n) e)))

@@ -203,7 +203,7 @@ facts qp f =
     let g = guard_facts qp f in
     (g.0, (g.1.0, (g.1.1.0, own_facts qp f)))
 
--- the guard of a row is p0 or the qualifying predicate
+-- The guard of a row is p0 or the qualifying predicate.
 guard_of : (qp : ℕ) (a : Access) (rows : List AccessRow) → HasRow qp a rows → (a.guard ≡ 0) ⊎ (a.guard ≡ qp)
 guard_of qp a [] k = absurd k
 guard_of qp a (row ∷ rows) (inl k) = rw (← k.1) (by_row row.guarded)
@@ -244,7 +244,7 @@ branches_so (action.Call b1 callee) b = (refl, refl)
 branches_so (action.Return b2) b = (refl, refl)
 branches_so _ b = absurd (true≢false (sym b))
 
--- each access by name is one of few kinds
+-- Each access by name is one of few kinds.
 pub regular : AccessesAreRegular
 regular insn a h =
     let f = insn_action insn in
@@ -264,7 +264,7 @@ regular insn a h =
       fill = λ e. rw e at x.1;
     }
 
--- the qualifying predicate is read, and where it rotates the frame
+-- The qualifying predicate is read, and where it rotates the frame.
 pub guards : GuardsAreRead
 guards insn = record {
   plain = λ n b. inr (inl (and_from _ _ n (reads_so (insn_action insn) b), refl));
@@ -289,7 +289,7 @@ read_kind f mask = record { some = inl refl; branch_read = λ e. absurd (cc) }
 write_kind : (f : Action) (mask : ℕ) → IsPlacedKind f mask Write
 write_kind f mask = record { some = inr (inr refl); branch_read = λ e. absurd (cc) }
 
--- the mask of p1 to p15 has no place from that of p16 on
+-- The mask of p1 to p15 has no place from that of p16 on.
 low_masked : (p : ℕ) → is_masked 0xfffe p ≡ true → p < 16
 low_masked p e = elim (cases_lt p 16) [ inl low ↦ low | inr high ↦ absurd (grind (arith, nat_tests)) ]
 
@@ -338,11 +338,11 @@ named_or_placed insn a h = by_part (has_append insn.qp a (rows_by_name insn.qp f
     by_part (inl k) = inl k
     by_part (inr k) = inr (placed insn a f refl k)
 
--- each guard is p0 or the qualifying predicate
+-- Each guard is p0 or the qualifying predicate.
 pub guarded : AccessesAreGuarded
 guarded insn a h = guard_of insn.qp a (rows insn.qp (insn_action insn)) h
 
--- only an `alloc` writes as an `alloc` does
+-- Only an `alloc` writes as an `alloc` does.
 pub alloc_writes : AllocWritesAreOfAlloc
 alloc_writes insn a h e = by_part (named_or_placed insn a h)
   where
@@ -355,7 +355,7 @@ alloc_writes insn a h e = by_part (named_or_placed insn a h)
     by_part (inl k) = (regular insn a k).alloc_write e
     by_part (inr k) = absurd (by_kind k.kind)
 
--- the mask with all bits has each place
+-- The mask with all bits has each place.
 all_masked : (p : ℕ) → is_masked 0x1ffff p ≡ true
 all_masked p = elim (cases_lt p 16) [
   | inl low ↦ let set : bit 0x1ffff p ≡ true = eq-eqb _ _ (bit_at_ones 17 p (omega arith)) in grind (arith, nat_tests)
@@ -370,7 +370,7 @@ predicates_read insn r1 p e h k =
     let has = mask_row insn.qp p 0x1ffff Read h k (all_masked p) in
     has_right insn.qp a (rows_by_name insn.qp f) (placed_rows f) (rw e has)
 
--- the mask of p1 to p15 has each of their places
+-- The mask of p1 to p15 has each of their places.
 static_masked : (p : ℕ) → 1 ≤ p → p < 16 → is_masked 0xfffe p ≡ true
 static_masked zero some low = absurd (omega arith)
 static_masked (suc p) some low =
@@ -386,7 +386,7 @@ static_row qp p (action.Return b2) e h k = mask_row qp p 0xfffe BranchRead h (om
 static_row qp p (action.Call b1 (callee.Direct disp)) e h k = absurd (true≢false (sym e))
 static_row qp p _ e h k = absurd (true≢false (sym e))
 
--- an indirect branch reads p1 to p15
+-- An indirect branch reads p1 to p15.
 pub statics_read : StaticsAreRead
 unfolding rows
 statics_read insn p e h k =
@@ -498,7 +498,7 @@ in_range insn a listed h = by_part (named_or_placed insn a h)
         name_in_range insn.qp (insn_action insn) a.resource n.0 n.1 (regular insn a k).name
     by_part (inr k) = rw k.resource (k.some, k.below)
 
--- the qualifying predicate is p0 or in the range
+-- The qualifying predicate is p0 or in the range.
 pub guards_in_range : GuardsAreInRange
 guards_in_range insn listed = by_number insn.qp (all_names insn.qp insn.op listed).0
   where
@@ -524,11 +524,11 @@ kinds_clash _ Read w = inl refl
 kinds_clash _ Fill w = inl refl
 kinds_clash _ _ w = inr (inl refl)
 
--- by which rule a change clashes with a later access
+-- By which rule a change clashes with a later access.
 pub changes_clash : ChangesClash
 changes_clash a b same w = rw (← same) (rw (resource_itself a.resource) (kinds_clash a.kind b.kind w))
 
--- which accesses clash
+-- Which accesses clash.
 pub accesses_clash : AccessesClash
 accesses_clash a b same w = by_rule (changes_clash a b same w)
   where

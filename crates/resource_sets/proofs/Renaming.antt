@@ -9,7 +9,7 @@ use Rattle.ia_meaning.specs.State.{IsFrame}
 use Rattle.ia_meaning.specs.Names.{is_stacked, frame_index, spot}
 use Rattle.rotation.proofs.Indexes.{apart, rotating_within}
 
--- where a register stands: among r0 to r31, or in the frame
+-- Where a register stands: among r0 to r31, or in the frame.
 record IsInFrame (f : FrameShape) (r : ℕ) (d : Spot) : Type 0 where
   stacked : 32 ≤ r
   within : r - 32 < f.sof
@@ -29,7 +29,7 @@ stands f r d h = by_tests (is_stacked r) (nat_lt (r - 32) f.sof) refl refl h
     by_tests true false i j e = absurd (cc)
     by_tests false c i j e = inl (cc)
 
--- different registers stand at different places
+-- Different registers stand at different places.
 pub spots_apart : (f : FrameShape) → IsFrame f → (r q : ℕ) (d e : Spot) → r ≢ q → spot f r ≡ Some d → spot f q ≡ Some e → d ≢ e
 spots_apart f frame r q d e differ h i same = by_place (stands f r d h) (stands f q e i)
   where
@@ -41,13 +41,13 @@ spots_apart f frame r q d e differ h i same = by_place (stands f r d h) (stands 
         let sums : f.base + frame_index f (r - 32) ≡ f.base + frame_index f (q - 32) = cc in
         apart f frame (r - 32) (q - 32) (omega arith) (omega arith) (λ k. differ (omega arith)) (omega arith)
 
--- rotation keeps inside a frame what is there, since the part that rotates is
+-- Rotation keeps inside a frame what is there, since the part that rotates is.
 place_inside : (f : FrameShape) (k : ℕ) → 8 * f.sor ≤ f.sof → k < f.sof → frame_index f k < f.sof
 unfolding frame_index
 place_inside f k rotating h =
     ⊎_elim (λ low. let a = rotating_within f k low in omega arith) (λ high. grind (arith, nat_tests)) (cases_lt k (8 * f.sor))
 
--- a register of the frame stands inside it
+-- A register of the frame stands inside it.
 pub spot_inside : (f : FrameShape) → 8 * f.sor ≤ f.sof → (r n : ℕ) → spot f r ≡ Some (Stacked n)
     → (f.base ≤ n) × (n < f.base + f.sof)
 spot_inside f rotating r n h = by_place (stands f r (Stacked n) h)

@@ -15,7 +15,7 @@ use Rattle.resource_sets.specs.Clashes.{is_resource}
 use Rattle.resource_sets.specs.ResourceSets.{has_resource, numbered, others, resources_in}
 use Rattle.resource_sets.proofs.BitWords.{or_false, bit_none, bit_more, bit_or_at, bit_and_at}
 
--- one more bit below a limit
+-- One more bit below a limit.
 below_more : (w : Width) (limit a r n : ℕ) → r < limit → limit ≤ bits w
     → (nat_lt n limit && bit (bit_or a (1 * 2 ^ r % 2 ^ bits w)) n) ≡ ((nat_lt n limit && bit a n) || eqb r n)
 below_more w limit a r n l m = elim (cases_eq n r) [
@@ -90,7 +90,7 @@ has_both s t Lc = refl
 has_both s t Ec = refl
 has_both s t Cfm = refl
 
--- sets without a common bit have no common resource
+-- Sets without a common bit have no common resource.
 pub none_met : (s t : ResourceSet) → bit_and s.registers t.registers ≡ 0 → bit_and s.predicates t.predicates ≡ 0 → bit_and s.branches t.branches ≡ 0
     → (s.unat && t.unat) ≡ false → (s.pfs && t.pfs) ≡ false → (s.lc && t.lc) ≡ false → (s.ec && t.ec) ≡ false → (s.cfm && t.cfm) ≡ false
     → (q : Resource) → (has_resource s q && has_resource t q) ≡ false
@@ -106,7 +106,7 @@ none_met s t r p b u f l e c q = sym (has_both s t q) ∙ of q
     of Ec = e
     of Cfm = c
 
--- one more resource of a sort
+-- One more resource of a sort.
 pub number_more : (h : Resource → Bool) (sort : ℕ → Resource) (old : List Resource) (limit n : ℕ) → n < limit
     → old ++ filter h (numbered sort (limit - n) n) ≡ (old ++ filter h (sort n ∷ [])) ++ filter h (numbered sort (limit - (n + 1)) (n + 1))
 unfolding numbered
@@ -126,7 +126,7 @@ number_none h sort old limit n e =
     let z : limit - n ≡ 0 = omega arith in
     rw z (append-nil old)
 
--- how many resources of a sort a set has
+-- How many resources of a sort a set has.
 count_more : (b : Bool) (x : Resource) (rest : List Resource) → length (cond b (x ∷ rest) rest) ≡ bool_byte b + length rest
 count_more true x rest = omega arith
 count_more false x rest = sym (zero-add (length rest))

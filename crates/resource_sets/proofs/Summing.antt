@@ -22,11 +22,11 @@ use Rattle.resource_sets.proofs.Members.{any_of, some_of}
 use Rattle.resource_sets.proofs.AccessSets.{same_resource, resource_itself}
 use Rattle.resource_sets.proofs.BitWords.{or_false, bit_or_at}
 
--- a test of one more access
+-- A test of one more access.
 one_more : (p : Access → Bool) (accesses : List Access) (a : Access) → list_any p (accesses ++ a ∷ []) ≡ (list_any p accesses || p a)
 one_more p accesses a = list_any-append p accesses (a ∷ []) ∙ ap (λ (t : Bool). list_any p accesses || t) (or_false (p a))
 
--- what one more access adds
+-- What one more access adds.
 pub summary_more : (accesses : List Access) (a : Access) (old new : Summary) (word : ℕ)
     → ((q : Resource) → has_resource new.barred q ≡ (has_resource old.barred q || (is_first a.kind && is_resource a.resource q)))
     → ((q : Resource) → has_resource new.made q ≡ (has_resource old.made q || (is_second a.kind && is_resource a.resource q)))
@@ -38,7 +38,7 @@ summary_more accesses a old new word b m w writes h = record {
   written = λ g l. ap (λ (n : ℕ). bit n g) w ∙ bit_or_at old.written word g ∙ (λ i. h.written g l i || writes g l i) ∙ sym (one_more (λ x. writes_guard g x.resource x.kind) accesses a);
 }
 
--- an access that clashes with a later one isn't a read
+-- An access that clashes with a later one isn't a read.
 clash_first : (first second : Kind) → is_some (clash_of first second) ≡ true → is_first first ≡ true
 unfolding clash_of
 clash_first Read second h = absurd (true≢false (sym h))
@@ -59,7 +59,7 @@ clash_parts a b h = of (is_resource a.resource b.resource) h
     of true e = (refl, e)
     of false e = absurd (true≢false (sym e))
 
--- an access that clashes with later ones is no read, and of a resource of theirs
+-- An access that clashes with later ones is no read, and of a resource of theirs.
 meets_made : (a : Access) (seconds : List Access) (t : Summary) → IsSummary seconds t → list_any (λ b. is_some (clash a b)) seconds ≡ true
     → (is_first a.kind ≡ true) × (has_resource t.made a.resource ≡ true)
 meets_made a seconds t g h =
@@ -69,7 +69,7 @@ meets_made a seconds t g h =
     (and_from _ _ (clash_second a.kind b.kind kinds) (ap (is_resource b.resource) (same_resource a.resource b.resource same) ∙ resource_itself b.resource)) in
     (clash_first a.kind b.kind kinds, g.made a.resource ∙ made)
 
--- where no resource is barred by the one and made by the other no accesses clash
+-- Where no resource is barred by the one and made by the other no accesses clash.
 pub apart : (firsts seconds : List Access) (s t : Summary) → IsSummary firsts s → IsSummary seconds t
     → ((q : Resource) → (has_resource s.barred q && has_resource t.made q) ≡ false) → may_clash firsts seconds ≡ false
 apart firsts seconds s t f g none = elim (cases_Bool (may_clash firsts seconds)) [

@@ -106,7 +106,7 @@ spot_location None = None
 spot_location (Some (Static n)) = Some (StaticAt n)
 spot_location (Some (Stacked n)) = Some (CellAt n)
 
--- where a resource stands by this frame
+-- Where a resource stands by this frame.
 abbrev pub location_of : FrameShape → Resource → Option Location
 location_of f (Gr r) = spot_location (spot f r)
 location_of f (Pr p) = Some (PredicateAt (predicate_index f p))
@@ -117,7 +117,7 @@ location_of f Lc = Some TheLc
 location_of f Ec = Some TheEc
 location_of f Cfm = Some TheFrame
 
--- the frame by which an instruction names its targets: the new one for `alloc`
+-- The frame by which an instruction names its targets: the new one for `alloc`.
 abbrev pub naming_frame : Action → FrameShape → FrameShape
 naming_frame (action.Allocate r1 sof sol sor) f = with_sizes f sof sol sor
 naming_frame g f = f
@@ -131,7 +131,7 @@ writes_registers OrWrite = true
 writes_registers AndWrite = true
 writes_registers kind = false
 
--- an or-write writes 1, an and-write 0
+-- An or-write writes 1, an and-write 0.
 abbrev pub MayPut : Kind → Write → Type 0
 MayPut OrWrite (SetPredicate n b) = b ≡ true
 MayPut OrWrite w = ⊥
@@ -139,12 +139,12 @@ MayPut AndWrite (SetPredicate n b) = b ≡ false
 MayPut AndWrite w = ⊥
 MayPut kind w = Unit {0}
 
--- an access is one of the rows that are there
+-- An access is one of the rows that are there.
 abbrev pub HasRow : ℕ → Access → List AccessRow → Type 0
 HasRow qp a [] = ⊥
 HasRow qp a (row ∷ rows) = ((row.there ≡ true) × (access qp row ≡ a)) ⊎ HasRow qp a rows
 
--- an access of an instruction
+-- An access of an instruction.
 abbrev pub HasAccess : Insn → Access → Type 0
 HasAccess insn a = HasRow insn.qp a (rows insn.qp (insn_action insn))
 

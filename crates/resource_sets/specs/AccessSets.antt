@@ -30,7 +30,7 @@ pub record ArePartsOf (accesses : List Access) (parts : Parts) : Type 0 where
   pub set : IsSetOf placed parts.placed
   pub within : AreInRange parts.named.items
 
--- how predicates by place are accessed
+-- How predicates by place are accessed.
 abbrev pub placed_kind : Action → Option Kind
 placed_kind (action.Fetch r1 Predicates) = Some Read
 placed_kind (action.ToPredicates r2 mask w) = Some Write

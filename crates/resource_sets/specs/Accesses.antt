@@ -33,7 +33,7 @@ use Rattle.resource_sets.specs.declared.access.Access.{Access}
 use Rattle.resource_sets.specs.declared.row.AccessRow.{AccessRow}
 use Rattle.resource_sets.specs.Rows.{is_named, gr, pr, always, listed}
 
--- the two targets of a test
+-- The two targets of a test.
 abbrev pub test_rows : CmpKind → ℕ → ℕ → List AccessRow
 test_rows cmp.Normal p q = pr true p Write ∷ pr true q Write ∷ []
 test_rows cmp.Unc p q = pr false p Write ∷ pr false q Write ∷ []
@@ -45,11 +45,11 @@ abbrev pub is_updated : Update → Bool
 is_updated update.None = false
 is_updated u = true
 
--- the base of a load or a store, which may be updated
+-- The base of a load or a store, which may be updated.
 abbrev pub base_row : Update → ℕ → AccessRow
 base_row u r = record { there = is_updated u && is_named r; guarded = true; resource = Gr r; kind = Write }
 
--- the register that an instruction names and neither reads nor writes, or r0
+-- The register that an instruction names and neither reads nor writes, or r0.
 abbrev pub other_name : Action → ℕ
 other_name (action.CheckAlat clear r1 disp) = r1
 other_name (action.Invalidate r1) = r1
@@ -67,7 +67,7 @@ place_rows zero n mask kind = []
 place_rows (suc left) n mask kind =
     record { there = is_masked mask n; guarded = true; resource = Pr n; kind = kind } ∷ place_rows left (suc n) mask kind
 
--- p1 to p63, where a mask has them
+-- p1 to p63, where a mask has them.
 unfoldable pub mask_rows : ℕ → Kind → List AccessRow
 mask_rows mask kind = place_rows 63 1 mask kind
 
@@ -80,11 +80,11 @@ abbrev pub is_fill : LoadKind → Bool
 is_fill load.Fill = true
 is_fill kind = false
 
--- what a fill or a spill accesses besides
+-- What a fill or a spill accesses besides.
 abbrev pub unat_row : Bool → Kind → AccessRow
 unat_row there kind = record { there = there; guarded = true; resource = Unat; kind = kind }
 
--- the branch register that an indirect call reads
+-- The branch register that an indirect call reads.
 abbrev pub callee_row : CallTarget → AccessRow
 callee_row (callee.Direct disp) = record { there = false; guarded = false; resource = Cfm; kind = Read }
 callee_row (callee.Indirect b2) = always true (Br b2) BranchRead
@@ -94,7 +94,7 @@ call_rows b1 callee =
     always true Cfm Read ∷ always true Cfm Write ∷ always true Pfs Write ∷ always true Ec Read
     ∷ always true (Br b1) Write ∷ callee_row callee ∷ []
 
--- a loop that counts by EC and rotates
+-- A loop that counts by EC and rotates.
 abbrev pub rotating_rows : List AccessRow
 rotating_rows =
     always false Ec Read ∷ always false Ec Write ∷ always false Cfm Read ∷ always false Cfm Write
@@ -151,7 +151,7 @@ placed_rows (action.Call b1 (callee.Indirect b2)) = mask_rows 0xfffe BranchRead
 placed_rows (action.Return b2) = mask_rows 0xfffe BranchRead
 placed_rows action = []
 
--- how the qualifying predicate is read
+-- How the qualifying predicate is read.
 abbrev pub reads_plainly : Action → Bool
 reads_plainly (action.Jump disp) = false
 reads_plainly (action.JumpIndirect b2) = false
@@ -164,7 +164,7 @@ abbrev pub is_branch_unit : ExecutionUnit → Bool
 is_branch_unit B = true
 is_branch_unit unit = false
 
--- a `break`, `nop` or `hint` of unit B reads it in both ways
+-- A `break`, `nop` or `hint` of unit B reads it in both ways.
 abbrev pub reads_as_branch : Action → Bool
 reads_as_branch (action.Stop unit imm) = is_branch_unit unit
 reads_as_branch (action.Idle unit) = is_branch_unit unit
@@ -175,7 +175,7 @@ qp_rows qp f =
     record { there = is_named qp && reads_plainly f; guarded = false; resource = Pr qp; kind = Read }
     ∷ record { there = is_named qp && reads_as_branch f; guarded = false; resource = Pr qp; kind = BranchRead } ∷ []
 
--- a name of the frame
+-- A name of the frame.
 abbrev pub is_framed : Resource → Bool
 is_framed (Gr r) = is_stacked r
 is_framed (Pr p) = is_rotating p
@@ -184,7 +184,7 @@ is_framed resource = false
 abbrev pub any_framed : List AccessRow → Bool
 any_framed rows = list_any (λ row. is_framed row.resource) rows
 
--- what a name of the frame depends on
+-- What a name of the frame depends on.
 abbrev pub frame_row : ℕ → Action → AccessRow
 frame_row qp f = record {
   there = is_rotating qp || (is_stacked (other_name f) || any_framed (own_rows f));

@@ -11,7 +11,7 @@ use Rattle.resource_sets.specs.declared.access.Access.{Access}
 use Rattle.resource_sets.specs.declared.clashes.Rule.{Rule}
 use Rattle.resource_sets.specs.declared.clashes.Rule.TheVariants.{Raw, Waw, War63}
 
--- a later slot of the group would see what such an access writes
+-- A later slot of the group would see what such an access writes.
 abbrev pub is_written : Kind → Bool
 is_written Write = true
 is_written LoopWrite = true
@@ -20,7 +20,7 @@ is_written AndWrite = true
 is_written Spill = true
 is_written kind = false
 
--- the frame that `alloc` writes is seen by its whole group
+-- The frame that `alloc` writes is seen by its whole group.
 abbrev pub is_write : Kind → Bool
 is_write AllocWrite = true
 is_write kind = is_written kind
@@ -43,19 +43,19 @@ is_waw AndWrite AndWrite = false
 is_waw Spill Spill = false
 is_waw first second = is_write first && is_write second
 
--- p63 is written by a loop branch that rotates, after an instruction of a B slot that reads it
+-- p63 is written by a loop branch that rotates, after an instruction of a B slot that reads it.
 abbrev pub is_war63 : Kind → Kind → Bool
 is_war63 BranchRead LoopWrite = true
 is_war63 first second = false
 
--- why an access of the first kind clashes with a later one of the second, of one resource
+-- Why an access of the first kind clashes with a later one of the second, of one resource.
 unfoldable pub clash_of : Kind → Kind → Option Rule
 clash_of first second =
     if is_raw first second then Some Raw
     else if is_waw first second then Some Waw
     else if is_war63 first second then Some War63 else None
 
--- resources are the same
+-- Resources are the same.
 abbrev pub is_resource : Resource → Resource → Bool
 is_resource (Gr n) (Gr k) = n == k
 is_resource (Pr n) (Pr k) = n == k
@@ -67,7 +67,7 @@ is_resource Ec Ec = true
 is_resource Cfm Cfm = true
 is_resource a b = false
 
--- why an access clashes with a later one
+-- Why an access clashes with a later one.
 abbrev pub clash : Access → Access → Option Rule
 clash first second = if is_resource first.resource second.resource then clash_of first.kind second.kind else None
 
@@ -81,6 +81,6 @@ writes_guard g (Pr p) AndWrite = p == g
 writes_guard g Cfm Write = is_rotating g
 writes_guard g q kind = false
 
--- an instruction with these accesses may write the guard
+-- An instruction with these accesses may write the guard.
 abbrev pub may_write_guard : ℕ → List Access → Bool
 may_write_guard g accesses = list_any (λ a. writes_guard g a.resource a.kind) accesses

@@ -13,7 +13,7 @@ use Rattle.resource_sets.specs.Clashes.{is_resource, clash, may_write_guard}
 use Rattle.resource_sets.specs.ResourceSets.{has_resource}
 use Rattle.resource_sets.specs.AccessSets.{ArePartsOf}
 
--- some access of the first list clashes with some later one of the second
+-- Some access of the first list clashes with some later one of the second.
 abbrev pub may_clash : List Access → List Access → Bool
 may_clash firsts seconds = list_any (λ a. list_any (λ b. is_some (clash a b)) seconds) firsts
 
@@ -28,7 +28,7 @@ abbrev pub is_second : Kind → Bool
 is_second BranchRead = false
 is_second kind = true
 
--- one of the accesses of the resource may clash with a later one, or with an earlier one
+-- One of the accesses of the resource may clash with a later one, or with an earlier one.
 abbrev pub is_barred : List Access → Resource → Bool
 is_barred accesses q = list_any (λ a. is_first a.kind && is_resource a.resource q) accesses
 

@@ -5,7 +5,7 @@ use Rattle.resource_sets.specs.declared.access.Resource.TheVariants.{Gr, Pr, Br}
 use Rattle.resource_sets.specs.declared.access.Access.{Access}
 use Rattle.resource_sets.specs.declared.row.AccessRow.{AccessRow}
 
--- the resource has a number of its sort
+-- The resource has a number of its sort.
 abbrev pub IsNumberInRange : Resource → Type 0
 IsNumberInRange (Gr r) = r < 128
 IsNumberInRange (Pr p) = p < 64

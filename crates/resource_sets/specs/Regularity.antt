@@ -22,21 +22,21 @@ use Rattle.resource_sets.specs.Accesses.{rows_by_name, is_framed, accesses}
 use Rattle.resource_sets.specs.Clashes.{clash, may_write_guard}
 use Rattle.resource_sets.specs.AccessLaws.{AgreesOn, Agree, Location, PredicateAt, location_of, naming_frame, HasRow, HasAccess}
 
--- an access by name
+-- An access by name.
 abbrev pub HasNamedAccess : Insn → Access → Type 0
 HasNamedAccess insn a = HasRow insn.qp a (rows_by_name insn.qp (insn_action insn))
 
--- a predicate that a test names
+-- A predicate that a test names.
 abbrev pub IsTarget : Action → ℕ → Type 0
 IsTarget (action.Test kind p1 p2 r2 r3 c) p = (p ≡ p1) ⊎ (p ≡ p2)
 IsTarget f p = ⊥
 
--- a loop branch
+-- A loop branch.
 abbrev pub IsLoop : Action → Type 0
 IsLoop (action.Loop kind disp) = Unit {0}
 IsLoop f = ⊥
 
--- r0 and p0 are no resources, and a predicate by name is the qualifying one, the target of a test, or p63 of a loop branch
+-- r0 and p0 are no resources, and a predicate by name is the qualifying one, the target of a test, or p63 of a loop branch.
 abbrev pub IsName : ℕ → Action → Resource → Type 0
 IsName qp f (Gr r) = 1 ≤ r
 IsName qp f (Pr p) = (1 ≤ p) × ((p ≡ qp) ⊎ (IsTarget f p ⊎ (IsLoop f × (p ≡ 63))))
@@ -46,14 +46,14 @@ abbrev pub IsPredicate : Resource → Type 0
 IsPredicate (Pr p) = Unit {0}
 IsPredicate q = ⊥
 
--- a counter of loops, or the frame
+-- A counter of loops, or the frame.
 abbrev pub IsCountOrFrame : Resource → Type 0
 IsCountOrFrame Lc = Unit {0}
 IsCountOrFrame Ec = Unit {0}
 IsCountOrFrame Cfm = Unit {0}
 IsCountOrFrame q = ⊥
 
--- what a branch goes by: the branch register that it jumps through, and of a return the previous function state too
+-- What a branch goes by: the branch register that it jumps through, and of a return the previous function state too.
 abbrev pub GoesBy : Action → Resource → Type 0
 GoesBy (action.JumpIndirect b2) q = q ≡ Br b2
 GoesBy (action.Call b1 (Indirect b2)) q = q ≡ Br b2
@@ -65,17 +65,17 @@ frame_read = record { resource = Cfm; kind = Read; guard = 0 }
 
 -- What holds of an access by name.
 pub record IsRegular (insn : Insn) (a : Access) : Type 0 where
-  -- it is made under p0 or under the qualifying predicate
+  -- It is made under p0 or under the qualifying predicate.
   pub guard : (a.guard ≡ 0) ⊎ (a.guard ≡ insn.qp)
   pub name : IsName insn.qp (insn_action insn) a.resource
-  -- a name of the frame comes with a read of the frame
+  -- A name of the frame comes with a read of the frame.
   pub framed : is_framed a.resource ≡ true → HasNamedAccess insn frame_read
-  -- what a branch reads as other instructions do
+  -- What a branch reads as other instructions do.
   pub branch_read : is_branch (insn_action insn) ≡ true → a.kind ≡ Read → IsCountOrFrame a.resource
-  -- what a branch reads as branches do
+  -- What a branch reads as branches do.
   pub branch_goes : is_branch (insn_action insn) ≡ true → a.kind ≡ BranchRead
       → (a.resource ≡ Pr insn.qp) ⊎ GoesBy (insn_action insn) a.resource
-  -- what other instructions read as branches do, they read as others do too
+  -- What other instructions read as branches do, they read as others do too.
   pub reads_too : is_branch (insn_action insn) ≡ false → a.kind ≡ BranchRead → HasNamedAccess insn (record a { kind = Read })
   pub alloc_write : a.kind ≡ AllocWrite → (is_alloc (insn_action insn) ≡ true) × (a.resource ≡ Cfm)
   pub loop_write : a.kind ≡ LoopWrite → a.resource ≡ Pr 63
@@ -87,7 +87,7 @@ pub record IsRegular (insn : Insn) (a : Access) : Type 0 where
 abbrev pub AccessesAreRegular : Type 0
 AccessesAreRegular = (insn : Insn) (a : Access) → HasNamedAccess insn a → IsRegular insn a
 
--- a read of the qualifying predicate, under p0
+-- A read of the qualifying predicate, under p0.
 abbrev pub qp_read : ℕ → Kind → Access
 qp_read qp kind = record { resource = Pr qp; kind = kind; guard = 0 }
 
@@ -132,7 +132,7 @@ abbrev pub PredicatesAreRead : Type 0
 PredicatesAreRead = (insn : Insn) (r1 p : ℕ) → insn_action insn ≡ action.Fetch r1 Predicates → 1 ≤ p → p < 64
     → HasAccess insn (record { resource = Pr p; kind = Read; guard = insn.qp })
 
--- an indirect branch reads p1 to p15 as branches do
+-- An indirect branch reads p1 to p15 as branches do.
 abbrev pub StaticsAreRead : Type 0
 StaticsAreRead = (insn : Insn) (p : ℕ) → is_indirect (insn_action insn) ≡ true → 1 ≤ p → p < 16
     → HasAccess insn (record { resource = Pr p; kind = BranchRead; guard = insn.qp })
@@ -158,7 +158,7 @@ abbrev pub GuardsAreWritten : Type 0
 GuardsAreWritten = (insn : Insn) (a : Access) (g : ℕ) → HasAccess insn a → IsChange a.kind
     → (a.resource ≡ Pr g) ⊎ ((a.resource ≡ Cfm) × (is_rotating g ≡ true)) → may_write_guard g (accesses insn) ≡ true
 
--- p1 to p63
+-- p1 to p63.
 abbrev pub IsInRange : Resource → Type 0
 IsInRange (Pr p) = (1 ≤ p) × (p < 64)
 IsInRange q = Unit {0}

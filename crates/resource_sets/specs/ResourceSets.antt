@@ -5,7 +5,7 @@ use Rattle.resource_sets.specs.declared.access.Resource.{Resource}
 use Rattle.resource_sets.specs.declared.access.Resource.TheVariants.{Gr, Pr, Br, Unat, Pfs, Lc, Ec, Cfm}
 use Rattle.resource_sets.specs.declared.sets.ResourceSet.{ResourceSet}
 
--- the resource is in the set
+-- The resource is in the set.
 abbrev pub has_resource : ResourceSet → Resource → Bool
 has_resource s (Gr r) = nat_lt r 128 && bit s.registers r
 has_resource s (Pr p) = nat_lt p 64 && bit s.predicates p
@@ -25,7 +25,7 @@ numbered sort (suc left) n = sort n ∷ numbered sort left (suc n)
 abbrev pub others : List Resource
 others = Unat ∷ Pfs ∷ Lc ∷ Ec ∷ Cfm ∷ []
 
--- the resources of the set, in the order in which resources are printed
+-- The resources of the set, in the order in which resources are printed.
 unfoldable pub resources_in : ResourceSet → List Resource
 resources_in s =
     ((filter (has_resource s) (numbered Gr 128 0) ++ filter (has_resource s) (numbered Pr 64 0))

@@ -6,27 +6,27 @@ use Rattle.resource_sets.specs.declared.access.Kind.{Kind}
 use Rattle.resource_sets.specs.declared.access.Access.{Access}
 use Rattle.resource_sets.specs.declared.row.AccessRow.{AccessRow}
 
--- r0 and p0 are no resources
+-- r0 and p0 are no resources.
 abbrev pub is_named : ℕ → Bool
 is_named zero = false
 is_named (suc n) = true
 
--- a general register under the qualifying predicate
+-- A general register under the qualifying predicate.
 abbrev pub gr : ℕ → Kind → AccessRow
 gr r kind = record { there = is_named r; guarded = true; resource = Gr r; kind = kind }
 
 abbrev pub pr : Bool → ℕ → Kind → AccessRow
 pr guarded p kind = record { there = is_named p; guarded = guarded; resource = Pr p; kind = kind }
 
--- a resource that has no number that leaves it out
+-- A resource that has no number that leaves it out.
 abbrev pub always : Bool → Resource → Kind → AccessRow
 always guarded resource kind = record { there = true; guarded = guarded; resource = resource; kind = kind }
 
--- an access under the qualifying predicate, or under p0
+-- An access under the qualifying predicate, or under p0.
 abbrev pub access : ℕ → AccessRow → Access
 access qp row = record { resource = row.resource; kind = row.kind; guard = if row.guarded then qp else 0 }
 
--- the rows that are there
+-- The rows that are there.
 abbrev pub listed : ℕ → List AccessRow → List Access
 listed qp [] = []
 listed qp (row ∷ rows) = if row.there then access qp row ∷ listed qp rows else listed qp rows

@@ -8,11 +8,11 @@ use Rattle.ia_meaning.specs.Names.{frame_index}
 use Rattle.ia_meaning.proofs.PredicateIndexes.{low_place, high_place}
 use Rattle.rotation.specs.Laws.{DifferentIndexes, DifferentRotatingIndexes, DifferentPredicateIndexes, IndexesWithin, RotatingIndexesWithin}
 
--- a number below twice the other is cut once at most
+-- A number below twice the other is cut once at most.
 pub cut_once : (n m : ℕ) → n < m + m → (n % m ≡ n) × (n < m) ⊎ (n % m + m ≡ n) × (m ≤ n)
 cut_once n m h = ⊎_elim (λ low. inl (mod-eq_of_lt low, low)) (λ high. inr (let e = mod-eq-sub-mod high in let f : (n - m) % m ≡ n - m = mod-eq_of_lt (omega arith) in omega arith, high)) (cases_lt n m)
 
--- sums with one base are cut at different places
+-- Sums with one base are cut at different places.
 pub cut_apart : (k j base m : ℕ) → k < m → j < m → (base < m) ⊎ (base ≡ 0) → (k + base) % m ≡ (j + base) % m → k ≡ j
 cut_apart k j base m h i b e =
     let below : base < m = omega arith in
@@ -24,7 +24,7 @@ pub rotating_apart : DifferentRotatingIndexes
 unfolding frame_index
 rotating_apart f frame k j h i differ same = differ (cut_apart k j f.rrbs.gr (8 * f.sor) h i frame.general (grind (arith, nat_tests)))
 
--- a place of the rotating part isn't one past it
+-- A place of the rotating part isn't one past it.
 rotating_index : (f : FrameShape) (k : ℕ) → k < 8 * f.sor → frame_index f k < 8 * f.sor
 unfolding frame_index
 rotating_index f k h = let low : (k + f.rrbs.gr) % (8 * f.sor) < 8 * f.sor = mod-lt (k + f.rrbs.gr) (omega arith) in grind (arith, nat_tests)

@@ -84,7 +84,7 @@ accessing_numbered sequence place a c = elim (numbered_or_idle sequence place) [
   | inr none ↦ absurd (not_in_none a (subst (λ (l : List Access). Contains l a) none c))
 ]
 
--- accesses that clash at two places clash at two others where the same is accessed
+-- Accesses that clash at two places clash at two others where the same is accessed.
 pub clashes_along : (g h : Graph) (i j k l : Place) (rule : Rule) (q : Resource) → accesses_at g i ≡ accesses_at h k → accesses_at g j ≡ accesses_at h l → Clashes g i j rule q → Clashes h k l rule q
 clashes_along g h i j k l rule q first second c = record {
   first = c.first;

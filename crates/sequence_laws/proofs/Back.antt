@@ -50,7 +50,7 @@ module _ (sequence : InsnSequence) (p : Program) (at : ℕ → Place) (sequence_
   abbrev Counterpart : Walk → ℕ → Type 0
   Counterpart w n = HasCounterpart sequence p at sequence_stop has_stop w n
 
-  -- where no stop of the program comes between two neighbours none of the sequence does
+  -- Where no stop of the program comes between two neighbours none of the sequence does.
   unstopped_sequence : (n : ℕ) → n + 1 < length sequence.insns → IsClear p at has_stop (at n) (n + 1) → sequence_stop (first_of n) ≡ false
   unstopped_sequence n inside clear = of (sequence_stop (first_of n)) refl
     where
@@ -60,7 +60,7 @@ module _ (sequence : InsnSequence) (p : Program) (at : ℕ → Place) (sequence_
           absurd (true≢false (sym stop ∙ clear.unstopped place between.is between.from between.below))
       of false e = e
 
-  -- a walk that begins at an entry
+  -- A walk that begins at an entry.
   back_entry : (bundle n : ℕ) → IsEntry p bundle → IsFirstFrom sequence at n (first_of bundle) → Counterpart (begins bundle) n
   back_entry bundle n entry first =
       let (m, sequence_entry, is, head) = spread.entries bundle entry in
@@ -72,7 +72,7 @@ module _ (sequence : InsnSequence) (p : Program) (at : ℕ → Place) (sequence_
         group = λ clear k inside c. absurd (not_in_none (at k) c);
       }
 
-  -- one that goes on along a taken edge of an instruction
+  -- One that goes on along a taken edge of an instruction.
   back_taken : (w : Walk) (to : Place) (m n : ℕ) → m < length sequence.insns → end_of w ≡ at m → HasEdge p (end_of w) Taken to → IsFirstFrom sequence at n to → Counterpart w m → Counterpart (goes_on w Taken to) n
   back_taken w to m n inside same edge first before =
       let lands = taken_to_first p (end_of w) to edge in
@@ -88,7 +88,7 @@ module _ (sequence : InsnSequence) (p : Program) (at : ℕ → Place) (sequence_
         group = λ clear j below c. absurd (not_in_none (at j) c);
       }
 
-  -- one that falls from an instruction
+  -- One that falls from an instruction.
   back_fall : (w : Walk) (to : Place) (m : ℕ) → m + 1 < length sequence.insns → end_of w ≡ at m → HasEdge p (end_of w) Falls to → Counterpart w m → Counterpart (goes_on w Falls to) (m + 1)
   back_fall w to m inside same edge before = record {
     walk = goes_on before.walk Falls (first_of (m + 1));
@@ -122,7 +122,7 @@ module _ (sequence : InsnSequence) (p : Program) (at : ℕ → Place) (sequence_
             ];
           }
 
-  -- one that falls past a `nop`
+  -- One that falls past a `nop`.
   back_filler : (w : Walk) (to : Place) (n : ℕ) → ((k : ℕ) → k < length sequence.insns → end_of w ≡ at k → ⊥) → HasEdge p (end_of w) Falls to → facts_in (over_program p) (goes_on w Falls to) ≡ facts_in (over_program p) w → Counterpart w n → Counterpart (goes_on w Falls to) n
   back_filler w to n none edge same before = record {
     walk = before.walk;
@@ -137,7 +137,7 @@ module _ (sequence : InsnSequence) (p : Program) (at : ℕ → Place) (sequence_
           let up = clear_before p at has_stop (end_of w) to n (falls_next p (end_of w) to edge) j.unstopped clear in
           elim j.is [ inl e ↦ absurd (none k below e) | inr d ↦ before.group up k below d ]
 
-  -- one step more, by what stands before it
+  -- One step more, by what stands before it.
   back_step_taken : (w : Walk) (to : Place) (n : ℕ) → HasEdge p (end_of w) Taken to → IsFirstFrom sequence at n to → Stands sequence p at (end_of w) → ((m : ℕ) → IsFirstFrom sequence at m (end_of w) → Counterpart w m) → Counterpart (goes_on w Taken to) n
   back_step_taken w to n edge first (own m inside same) before =
       back_taken w to m n inside same edge first (before m (subst (IsFirstFrom sequence at m) (sym same) (first_at sequence p at spread m inside)))

@@ -33,7 +33,7 @@ pub data Stands (sequence : InsnSequence) (p : Program) (at : ℕ → Place) (pl
   own : (n : ℕ) → n < length sequence.insns → place ≡ at n → Stands sequence p at place
   filler : (i : Insn) → insn_at p.bundles place ≡ Some i → IsFiller i → ((n : ℕ) → n < length sequence.insns → place ≡ at n → ⊥) → Stands sequence p at place
 
--- a number below the bound whose place it is, or none
+-- A number below the bound whose place it is, or none.
 own_or_none : (at : ℕ → Place) (place : Place) (bound : ℕ) → ((n : ℕ) × (n < bound) × (place ≡ at n)) ⊎ ((n : ℕ) → n < bound → place ≡ at n → ⊥)
 own_or_none at place zero = inr (λ n inside is. omega arith)
 own_or_none at place (suc bound) = of (own_or_none at place bound) (cases_place place (at bound))
@@ -64,7 +64,7 @@ module _ (sequence : InsnSequence) (p : Program) (at : ℕ → Place) (spread : 
   pub at_place : (n : ℕ) → n < length sequence.insns → IsPlaceOf p.bundles (at n)
   at_place n inside = let t = there n inside in rw t.in_program refl
 
-  -- of two instructions the first is the one whose place comes first
+  -- Of two instructions the first is the one whose place comes first.
   pub in_order : (n m : ℕ) → n < length sequence.insns → m < length sequence.insns → IsBefore (at n) (at m) → n < m
   in_order n m inside below before = of (cases_lt n m) (cases_eq n m)
     where
@@ -73,7 +73,7 @@ module _ (sequence : InsnSequence) (p : Program) (at : ℕ → Place) (spread : 
       of (inr more) (inl same) = absurd (not_before_itself (at m) (subst (λ (k : ℕ). IsBefore (at k) (at m)) same before))
       of (inr more) (inr apart) = absurd (not_before_itself (at n) (before_trans (at n) (at m) (at n) before (spread.rises m n (omega arith) inside)))
 
-  -- two instructions at one place are one
+  -- Two instructions at one place are one.
   pub at_once : (n m : ℕ) → n < length sequence.insns → m < length sequence.insns → at n ≡ at m → n ≡ m
   at_once n m inside below same = of (cases_lt n m) (cases_lt m n)
     where
@@ -82,11 +82,11 @@ module _ (sequence : InsnSequence) (p : Program) (at : ℕ → Place) (spread : 
       of (inr up) (inl more) = absurd (not_before_itself (at n) (subst (λ (q : Place). IsBefore q (at n)) (sym same) (spread.rises m n more inside)))
       of (inr up) (inr down) = omega arith
 
-  -- an instruction is the first at its own place
+  -- An instruction is the first at its own place.
   pub first_at : (n : ℕ) → n < length sequence.insns → IsFirstFrom sequence at n (at n)
   first_at n inside = record { inside = inside; from = not_before_itself (at n); first = λ k less. spread.rises k n less inside }
 
-  -- one instruction at most is the first at or after a place
+  -- One instruction at most is the first at or after a place.
   pub first_once : (n m : ℕ) (place : Place) → IsFirstFrom sequence at n place → IsFirstFrom sequence at m place → n ≡ m
   first_once n m place f g = of (cases_lt n m) (cases_lt m n)
     where
@@ -95,7 +95,7 @@ module _ (sequence : InsnSequence) (p : Program) (at : ℕ → Place) (spread : 
       of (inr up) (inl more) = absurd (g.from (f.first m more))
       of (inr up) (inr down) = omega arith
 
-  -- an instruction that is first in its bundle is the first at or after the bundle's first place
+  -- An instruction that is first in its bundle is the first at or after the bundle's first place.
   pub first_landing : (n : ℕ) (bundle : ℕ) → n < length sequence.insns → (at n).bundle ≡ bundle → IsHead at n → IsFirstFrom sequence at n (first_of bundle)
   first_landing n bundle inside is head = record {
     inside = inside;
@@ -131,7 +131,7 @@ module _ (sequence : InsnSequence) (p : Program) (at : ℕ → Place) (spread : 
         | inr less ↦ before_trans (at n) (at m) next (spread.rises n m (omega arith) inside) is.after
       ]))
 
-  -- past a `nop` the first one stays the same
+  -- Past a `nop` the first one stays the same.
   pub first_past_filler : (n : ℕ) (place next : Place) → ((k : ℕ) → k < length sequence.insns → place ≡ at k → ⊥) → IsNext p.bundles place next → IsFirstFrom sequence at n place → IsFirstFrom sequence at n next
   first_past_filler n place next none is f = record {
     inside = f.inside;
@@ -157,7 +157,7 @@ module _ (sequence : InsnSequence) (p : Program) (at : ℕ → Place) (spread : 
       of k inside before (inr (inl same)) = absurd (none k inside (sym same))
       of k inside before (inr (inr after)) = absurd (is.first (at k) (at_place k inside) after before)
 
-  -- at each place stands an instruction of the sequence or a `nop`
+  -- At each place stands an instruction of the sequence or a `nop`.
   pub stands : (place : Place) → IsPlaceOf p.bundles place → Stands sequence p at place
   stands place is = of (insn_at p.bundles place) refl is (own_or_none at place (length sequence.insns))
     where

@@ -21,7 +21,7 @@ use Rattle.sequence_laws.specs.Spreads.{IsFiller}
 use Rattle.sequence_laws.proofs.Fillers.{filler_stays}
 use Rattle.sequence_laws.proofs.Between.{IsThere}
 
--- what is known past the n-th instruction is the same in the sequence and in the program
+-- What is known past the n-th instruction is the same in the sequence and in the program.
 same_past : (sequence : InsnSequence) (p : Program) (at : ℕ → Place) (n : ℕ) (e : Edge) (f : Pairs) → IsThere sequence p at n → sequence_past sequence.insns (first_of n) e f ≡ pairs_past p (at n) e f
 unfolding sequence_past pairs_past
 same_past sequence p at n e f t =
@@ -38,12 +38,12 @@ same_facts sequence p at n u w e to_sequence to t ends_sequence ends same =
     ∙ same_past sequence p at n e (facts_in (over_program p) w) t
     ∙ sym (ap (λ (q : Place). pairs_past p q e (facts_in (over_program p) w)) ends)
 
--- a walk of a program ends at one of its places
+-- A walk of a program ends at one of its places.
 pub walk_place : (p : Program) (w : Walk) → IsWalkIn (over_program p) w → IsPlaceOf p.bundles (end_of w)
 walk_place p (begins bundle) is = first_is_place p.bundles bundle is.inside
 walk_place p (goes_on w e place) is = is.1.lands
 
--- a place with one behind it has a next one
+-- A place with one behind it has a next one.
 pub has_next : (bundles : List Bundle) (place later : Place) → IsPlaceOf bundles later → IsBefore place later → (next : Place) × (next_of bundles place ≡ Some next)
 has_next bundles place later is after = of (next_of bundles place) refl (next_fits bundles place)
   where
@@ -51,7 +51,7 @@ has_next bundles place later is after = of (next_of bundles place) refl (next_fi
     of None e none = absurd (none later is after)
     of (Some next) e n = (next, e)
 
--- a taken edge leads to the first place of a bundle
+-- A taken edge leads to the first place of a bundle.
 pub taken_to_first : (p : Program) (from to : Place) → HasEdge p from Taken to → to ≡ first_of to.bundle
 unfolding edge_end
 taken_to_first p from to edge = of (insn_at p.bundles from) edge.leads

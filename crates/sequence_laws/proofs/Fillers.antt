@@ -57,7 +57,7 @@ filler_keeps i f e (unit, is) bounded = rw is (fun_ext (λ x. fun_ext (λ y. bot
     both x y false true h = h refl
     both x y false false h = refl
 
--- what is known past an instruction is of predicates
+-- What is known past an instruction is of predicates.
 pub after_bounded : (f : Pairs) (i : Insn) (e : Edge) → IsBounded (pairs_after f i e)
 unfolding pairs_after
 after_bounded f i e = record { each = λ x y h. (and_parts (in_range x y) (is_met (rule_of i e x y) f) h).0 }
@@ -78,7 +78,7 @@ pair_bounded f a b apart below bounded = record { each = λ x y h. of x y (f x y
     of x y true e h = bounded.each x y e
     of x y false e h = same x y h
 
--- a relation of two predicates, the lower one first
+-- A relation of two predicates, the lower one first.
 abbrev IsOfTwo : Relation → Type 0
 IsOfTwo r = (r.p < r.q) × (r.q < 64)
 
@@ -88,7 +88,7 @@ relations_bounded f (r ∷ rs) each bounded =
     let first = All-head IsOfTwo r rs each in
     relations_bounded (with_pair f r.p r.q) rs (All-tail IsOfTwo r rs each) (pair_bounded f r.p r.q first.0 first.1 bounded)
 
--- what an entry of a program declares is of predicates
+-- What an entry of a program declares is of predicates.
 entry_bounded : (p : Program) (bundle : ℕ) → IsProgram p → IsBounded (known_at_entry p.relations bundle)
 unfolding known_at_entry
 entry_bounded p bundle program =
@@ -105,12 +105,12 @@ past_bounded p place e f bounded = of (insn_at p.bundles place)
     of None = bounded
     of (Some i) = after_bounded f i e
 
--- what is known on a walk of a program is of predicates
+-- What is known on a walk of a program is of predicates.
 pub walk_bounded : (p : Program) (w : Walk) → IsProgram p → IsWalkIn (over_program p) w → IsBounded (facts_in (over_program p) w)
 walk_bounded p (begins bundle) program is = entry_bounded p bundle program
 walk_bounded p (goes_on w e place) program is = past_bounded p (end_of w) e (facts_in (over_program p) w) (walk_bounded p w program is.0)
 
--- past such a `nop` the same is known
+-- Past such a `nop` the same is known.
 pub filler_past : (p : Program) (place : Place) (e : Edge) (f : Pairs) (i : Insn) → insn_at p.bundles place ≡ Some i → IsFiller i → IsBounded f → pairs_past p place e f ≡ f
 unfolding pairs_past
 filler_past p place e f i here filler bounded = ap (λ (o : Option Insn). pairs_past_insn o e f) here ∙ filler_keeps i f e filler bounded

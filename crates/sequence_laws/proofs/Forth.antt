@@ -47,11 +47,11 @@ at_or_before sequence at n place first = of (place_cases place (at n))
     of (inr (inr after)) = absurd (first.from after)
 
 module _ (sequence : InsnSequence) (p : Program) (at : ℕ → Place) (has_stop : Place → Bool) (program : IsProgram p) (spread : IsSpread sequence p at) where
-  -- the walk is there
+  -- The walk is there.
   is_there : (w : Walk) (n : ℕ) → IsWalkIn (over_program p) w → end_of w ≡ at n → GoesOnTo p at has_stop w n
   is_there w n is same = record { walk = w; there = record { walks = is; ends = same }; facts = refl; group = λ clear i c. c }
 
-  -- what a fall past a `nop` leaves to go
+  -- What a fall past a `nop` leaves to go.
   past_filler : (w : Walk) (next : Place) (n : ℕ) → IsPlaceOf p.bundles (end_of w) → IsNext p.bundles (end_of w) next → facts_in (over_program p) (goes_on w Falls next) ≡ facts_in (over_program p) w → IsBefore (end_of w) (at n) → GoesOnTo p at has_stop (goes_on w Falls next) n → GoesOnTo p at has_stop w n
   past_filler w next n there is same before on = record {
     walk = on.walk;
@@ -65,7 +65,7 @@ module _ (sequence : InsnSequence) (p : Program) (at : ℕ → Place) (has_stop 
       rest : IsClear p at has_stop (end_of w) n → IsClear p at has_stop next n
       rest clear = record { unstopped = λ place is_place up below. clear.unstopped place is_place (λ less. up (before_trans place (end_of w) next less is.after)) below }
 
-  -- the fall past it
+  -- The fall past it.
   filler_fall : (w : Walk) (n : ℕ) → IsWalkIn (over_program p) w → IsFirstFrom sequence at n (end_of w) → IsBefore (end_of w) (at n) → ((next : Place) → IsWalkIn (over_program p) (goes_on w Falls next) → IsFirstFrom sequence at n next → IsBefore (end_of w) next → GoesOnTo p at has_stop (goes_on w Falls next) n) → Stands sequence p at (end_of w) → GoesOnTo p at has_stop w n
   filler_fall w n is first before goes (own m inside same) =
       let below = in_order sequence p at spread m n inside first.inside (subst (λ (q : Place). IsBefore q (at n)) same before) in
@@ -90,7 +90,7 @@ module _ (sequence : InsnSequence) (p : Program) (at : ℕ → Place) (has_stop 
         (stands sequence p at spread (end_of w) (walk_place p w is))
   ]
 
-  -- however many those are
+  -- However many those are.
   pub goes_to : (w : Walk) (n : ℕ) → IsWalkIn (over_program p) w → IsFirstFrom sequence at n (end_of w) → GoesOnTo p at has_stop w n
   goes_to w n is first = over_fillers (place_number (at n)) w n is first (omega arith)
 
@@ -104,7 +104,7 @@ module _ (sequence : InsnSequence) (p : Program) (at : ℕ → Place) (sequence_
   abbrev Followed : Walk → ℕ → Type 0
   Followed u n = IsFollowed sequence p at sequence_stop has_stop u n
 
-  -- a walk that begins at an entry
+  -- A walk that begins at an entry.
   forth_entry : (n : ℕ) → IsSequenceEntry sequence n → Followed (begins n) n
   forth_entry n entry =
       let (bundle_entry, head) = spread.sequence_entries n entry in
@@ -116,7 +116,7 @@ module _ (sequence : InsnSequence) (p : Program) (at : ℕ → Place) (sequence_
         group = λ k below c. absurd (not_in_none (first_of k) c);
       }
 
-  -- one that goes on along a taken edge
+  -- One that goes on along a taken edge.
   forth_taken : (u : Walk) (m n : ℕ) → m < length sequence.insns → end_of u ≡ first_of m → HasSequenceEdge sequence (first_of m) Taken (first_of n) → Followed u m → Followed (goes_on u Taken (first_of n)) n
   forth_taken u m n inside same sequence_edge before =
       let (edge, head) = spread.sequence_targets m n sequence_edge in
@@ -131,7 +131,7 @@ module _ (sequence : InsnSequence) (p : Program) (at : ℕ → Place) (sequence_
         group = λ k below c. absurd (not_in_none (first_of k) c);
       }
 
-  -- where the sequence falls the program does
+  -- Where the sequence falls the program does.
   pub falls_forth : (w : Walk) (m : ℕ) → m + 1 < length sequence.insns → end_of w ≡ at m → HasSequenceEdge sequence (first_of m) Falls (first_of (m + 1)) → HasFall p at w m
   falls_forth w m inside same sequence_edge =
       let here = there sequence p at spread m (omega arith) in
@@ -163,7 +163,7 @@ module _ (sequence : InsnSequence) (p : Program) (at : ℕ → Place) (sequence_
     };
   }
 
-  -- one that falls
+  -- One that falls.
   forth_fall : (u : Walk) (m : ℕ) → m + 1 < length sequence.insns → end_of u ≡ first_of m → HasSequenceEdge sequence (first_of m) Falls (first_of (m + 1)) → Followed u m → Followed (goes_on u Falls (first_of (m + 1))) (m + 1)
   forth_fall u m inside same sequence_edge before = record {
     walk = on.walk;
@@ -190,7 +190,7 @@ module _ (sequence : InsnSequence) (p : Program) (at : ℕ → Place) (sequence_
             ];
           })
 
-  -- one step more
+  -- One step more.
   forth_step_taken : (u : Walk) (to : Place) (n : ℕ) → HasSequenceEdge sequence (end_of u) Taken to → to ≡ first_of n → IsNumbered sequence.insns (end_of u) → ((m : ℕ) → end_of u ≡ first_of m → Followed u m) → Followed (goes_on u Taken to) n
   forth_step_taken u to n edge ends from before =
       let along : HasSequenceEdge sequence (first_of from.number) Taken (first_of n) = subst (HasSequenceEdge sequence (first_of from.number) Taken) ends (subst (λ (q : Place). HasSequenceEdge sequence q Taken to) from.is edge) in

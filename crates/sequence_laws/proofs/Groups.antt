@@ -26,7 +26,7 @@ pub joins : (has_stop : Place → Bool) (w : Walk) (to i : Place) → IsJoined h
 joins has_stop w to i joined =
     rw (falls_group has_stop w to joined.unstopped) (elim joined.is [ inl same ↦ in_head (end_of w) i (group_since has_stop w) same | inr c ↦ in_tail (end_of w) i (group_since has_stop w) c ])
 
--- a group that isn't empty has a latest place
+-- A group that isn't empty has a latest place.
 pub record HasLatest (places : List Place) : Type 0 where
   pub place : Place
   pub latest : IsLatest places place

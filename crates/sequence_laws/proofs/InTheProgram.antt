@@ -33,7 +33,7 @@ module _ (sequence : InsnSequence) (p : Program) (at : ℕ → Place) (sequence_
   Violated = (v : Violation) × ViolatesIn (over_program p) has_stop v
 
   module _ (u : Walk) (walks : IsWalkIn (over_sequence sequence) u) (i : Place) (q : Resource) (inside : Contains (group_since sequence_stop u) i) where
-    -- the number of the last instruction, and the walk of the program that goes there
+    -- The number of the last instruction, and the walk of the program that goes there.
     last : IsNumbered sequence.insns (end_of u)
     last = sequence_walk_place sequence u walks
 
@@ -49,7 +49,7 @@ module _ (sequence : InsnSequence) (p : Program) (at : ℕ → Place) (sequence_
     kept : (k : Place) (m : IsNumbered sequence.insns k) → Contains (group_since sequence_stop u) k → Contains (group_since has_stop w.walk) (at m.number)
     kept k m c = w.group m.number m.inside (subst (Contains (group_since sequence_stop u)) m.is c)
 
-    -- what excuses two accesses in the program excuses them in the sequence
+    -- What excuses two accesses in the program excuses them in the sequence.
     excused_back : (m : IsNumbered sequence.insns i) (first second : ℕ) → IsExcused (over_program p) has_stop w.walk (at m.number) first second → IsExcused (over_sequence sequence) sequence_stop u i first second
     excused_back m first second x = record {
       known = ap (λ (f : Pairs). f first second) w.facts ∙ x.known;
@@ -65,7 +65,7 @@ module _ (sequence : InsnSequence) (p : Program) (at : ℕ → Place) (sequence_
         of k c up (inl n) = ap (may_write_guard first) (same_at k n) ∙ x.unwritten (at n.number) (kept k n c) (up_there k n up)
         of k c up (inr none) = ap (may_write_guard first) none
 
-    -- two slots that clash
+    -- Two slots that clash.
     clash_in_program : (rule : Rule) (m : IsNumbered sequence.insns i) → Breaks (over_program p) has_stop w.walk (at m.number) rule q → Violated
     clash_in_program rule m breaks = (
       record { second = at last.number; first = at m.number; rule = rule; resource = q },
@@ -79,7 +79,7 @@ module _ (sequence : InsnSequence) (p : Program) (at : ℕ → Place) (sequence_
     first_by : (a : Access) → Contains (accesses_at (over_sequence sequence) i) a → IsNumbered sequence.insns i
     first_by a c = accessing_numbered sequence i a c
 
-    -- the last step
+    -- The last step.
     from : ComesFrom (over_sequence sequence) sequence_stop u
     from = comes_from (over_sequence sequence) sequence_stop u i walks inside
 
@@ -151,7 +151,7 @@ module _ (sequence : InsnSequence) (p : Program) (at : ℕ → Place) (sequence_
             ∙ ap (clears_at (over_sequence sequence)) (sym before.is ∙ first)
             ∙ clearing
 
-    -- by the rule
+    -- By the rule.
     violated_by : (rule : Rule) → Breaks (over_sequence sequence) sequence_stop u i rule q → Violated
     violated_by Raw b = let m = first_by b.clashes.first b.clashes.of_first in clash_in_program Raw m (unexcused_in_program Raw m b)
     violated_by Waw b = let m = first_by b.clashes.first b.clashes.of_first in clash_in_program Waw m (unexcused_in_program Waw m b)

@@ -54,7 +54,7 @@ module _ (sequence : InsnSequence) (p : Program) (at : ℕ → Place) (sequence_
       second : IsOwn sequence at (end_of w)
       second = accessing_own sequence p at (end_of w) b spread of_second
 
-  -- the instructions of the walk's group are in that of the counterpart
+  -- The instructions of the walk's group are in that of the counterpart.
   group_kept : (w : Walk) (i : Place) (both : IsOfOwn sequence p at sequence_stop has_stop w i) (k : Place) → (own : IsOwn sequence at k) → Contains (group_since has_stop w) k → Contains (group_since sequence_stop both.counterpart.walk) (first_of own.number)
   group_kept w i both k own inside =
       both.counterpart.group (clear_at p at has_stop (end_of w) both.second.number both.second.is) own.number own.inside (subst (Contains (group_since has_stop w)) own.is inside)
@@ -70,7 +70,7 @@ module _ (sequence : InsnSequence) (p : Program) (at : ℕ → Place) (sequence_
       ∙ sym (accesses_same sequence p at both.second.number (there sequence p at spread both.second.number both.second.inside))
       ∙ sym (ap (accesses_at (over_sequence sequence)) both.counterpart.there.ends)
 
-  -- what excuses two accesses in the sequence excuses them in the program
+  -- What excuses two accesses in the sequence excuses them in the program.
   excused_forth : (w : Walk) (i : Place) (both : IsOfOwn sequence p at sequence_stop has_stop w i) (first second : ℕ) → IsExcused (over_sequence sequence) sequence_stop both.counterpart.walk (first_of both.first.number) first second → IsExcused (over_program p) has_stop w i first second
   excused_forth w i both first second x = record {
     known = sym (ap (λ (f : Pairs). f first second) both.counterpart.facts) ∙ x.known;
@@ -88,7 +88,7 @@ module _ (sequence : InsnSequence) (p : Program) (at : ℕ → Place) (sequence_
           ∙ x.unwritten (first_of own.number) (group_kept w i both k own inside) (own_up k own up)
       of k inside up (inr idle) = ap (may_write_guard first) idle.accesses
 
-  -- the pair in the sequence
+  -- The pair in the sequence.
   of_pair : (w : Walk) (i : Place) (both : IsOfOwn sequence p at sequence_stop has_stop w i) (rule : Rule) (q : Resource) → Contains (group_since has_stop w) i → Breaks (over_sequence sequence) sequence_stop both.counterpart.walk (first_of both.first.number) rule q → IsViolated sequence sequence_stop
   of_pair w i both rule q inside breaks = (
     record { second = first_of both.second.number; first = first_of both.first.number; rule = rule; resource = q },
@@ -100,7 +100,7 @@ module _ (sequence : InsnSequence) (p : Program) (at : ℕ → Place) (sequence_
     },
   )
 
-  -- accesses that clash in the program clash in the sequence
+  -- Accesses that clash in the program clash in the sequence.
   clashed_in_sequence : (w : Walk) (i : Place) (rule : Rule) (q : Resource) (both : IsOfOwn sequence p at sequence_stop has_stop w i) → Clashes (over_program p) i (end_of w) rule q → Clashes (over_sequence sequence) (first_of both.first.number) (end_of both.counterpart.walk) rule q
   clashed_in_sequence w i rule q both c =
       clashes_along (over_program p) (over_sequence sequence) i (end_of w) (first_of both.first.number) (end_of both.counterpart.walk) rule q (first_same w i both) (second_same w i both) c
@@ -118,7 +118,7 @@ module _ (sequence : InsnSequence) (p : Program) (at : ℕ → Place) (sequence_
       let both = both_own sequence p at sequence_stop has_stop program spread stops w i c.first c.second walks c.of_first c.of_second in
       of_pair sequence p at sequence_stop has_stop program spread stops w i both rule q inside (breaks both)
 
-  -- the last step
+  -- The last step.
   from : ComesFrom (over_program p) has_stop w
   from = comes_from (over_program p) has_stop w i walks inside
 
@@ -256,7 +256,7 @@ module _ (sequence : InsnSequence) (p : Program) (at : ℕ → Place) (sequence_
           (clears_same sequence p at own.number (there sequence p at spread own.number own.inside) ∙ ap (clears_at (over_program p)) (sym own.is) ∙ clearing)
           of_frame
 
-  -- by the rule
+  -- By the rule.
   violated_by : (rule : Rule) → Breaks (over_program p) has_stop w i rule q → IsViolated sequence sequence_stop
   violated_by Raw b = clash_in_sequence Raw b.clashes (λ both. unexcused_in_sequence sequence p at sequence_stop has_stop program spread stops w i Raw q both b)
   violated_by Waw b = clash_in_sequence Waw b.clashes (λ both. unexcused_in_sequence sequence p at sequence_stop has_stop program spread stops w i Waw q both b)

@@ -14,7 +14,7 @@ use Rattle.sequence_laws.proofs.Between.{IsFirstFrom, first_at}
 use Rattle.sequence_laws.proofs.Back.{HasCounterpart, back}
 use Rattle.sequence_laws.proofs.Forth.{IsFollowed, forth}
 
--- no stop follows a place
+-- No stop follows a place.
 abbrev unstopped : Place → Bool
 unstopped place = false
 
@@ -25,7 +25,7 @@ none_stops sequence p at = record {
 }
 
 module _ (sequence : InsnSequence) (p : Program) (at : ℕ → Place) (n : ℕ) (program : IsProgram p) (spread : IsSpread sequence p at) (inside : n < length sequence.insns) where
-  -- the walk of the sequence for one of the program to the instruction
+  -- The walk of the sequence for one of the program to the instruction.
   back_at : (w : Walk) → EndsIn (over_program p) (at n) w → HasCounterpart sequence p at unstopped unstopped w n
   back_at w there =
       back sequence p at unstopped unstopped program spread (none_stops sequence p at) w there.walks n
@@ -35,7 +35,7 @@ module _ (sequence : InsnSequence) (p : Program) (at : ℕ → Place) (n : ℕ) 
   forth_at : (u : Walk) → EndsIn (over_sequence sequence) (first_of n) u → IsFollowed sequence p at unstopped unstopped u n
   forth_at u there = forth sequence p at unstopped unstopped program spread (none_stops sequence p at) u there.walks n there.ends
 
-  -- the pairs that all walks of the program know are those that all walks of the sequence know
+  -- The pairs that all walks of the program know are those that all walks of the sequence know.
   meet_in_sequence : (f : Pairs) → IsMeetIn (over_program p) (at n) f → IsMeetIn (over_sequence sequence) (first_of n) f
   meet_in_sequence f meet = record {
     reached = reached;

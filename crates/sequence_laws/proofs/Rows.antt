@@ -13,18 +13,18 @@ use Rattle.flow_facts.specs.Graphs.{InsnSequence, over_sequence, sequence_insn, 
 use Rattle.flow_facts.specs.Walks.{Walk, begins, goes_on, end_of, IsWalkIn}
 use Rattle.order_laws.proofs.Falling.{falls_next}
 
--- the number of the instruction at a place of the sequence
+-- The number of the instruction at a place of the sequence.
 pub record IsNumbered (insns : List Insn) (place : Place) : Type 0 where
   pub number : ℕ
   pub inside : number < length insns
   pub is : place ≡ first_of number
 
--- the n-th instruction stands at the n-th place
+-- The n-th instruction stands at the n-th place.
 pub sequence_insn_is : (insns : List Insn) (n : ℕ) → sequence_insn insns (first_of n) ≡ slice_get insns n
 unfolding sequence_insn
 sequence_insn_is insns n = refl
 
--- each of its places is one of its instructions'
+-- Each of its places is one of its instructions'.
 pub sequence_numbered : (insns : List Insn) (place : Place) → IsSome (sequence_insn insns place) → IsNumbered insns place
 unfolding sequence_insn
 sequence_numbered insns place h = of (place.slot == 0) refl (slice_get insns place.bundle) refl h
@@ -45,12 +45,12 @@ sequence_inside insns n is =
     let same : n ≡ numbered.number = ap (λ (q : Place). q.bundle) numbered.is in
     omega (arith, numbered.inside)
 
--- a walk of the sequence ends at one of its places
+-- A walk of the sequence ends at one of its places.
 pub sequence_walk_place : (sequence : InsnSequence) (u : Walk) → IsWalkIn (over_sequence sequence) u → IsNumbered sequence.insns (end_of u)
 sequence_walk_place sequence (begins n) is = record { number = n; inside = is.inside; is = refl }
 sequence_walk_place sequence (goes_on u e place) is = sequence_numbered sequence.insns place is.1.lands
 
--- the next place
+-- The next place.
 pub sequence_next_is : (insns : List Insn) (n : ℕ) → n + 1 < length insns → sequence_next insns (first_of n) ≡ Some (first_of (n + 1))
 unfolding sequence_next
 sequence_next_is insns n inside = rw (lt-ltb (n + 1) (length insns) inside) refl

@@ -36,7 +36,7 @@ IsHead at n = (k : ℕ) → k < n → (at k).bundle < (at n).bundle
 
 -- The program has the instructions of the sequence at these places.
 pub record IsSpread (sequence : InsnSequence) (p : Program) (at : ℕ → Place) : Type 0 where
-  -- each instruction does the same at its place, and the places are in order
+  -- Each instruction does the same at its place, and the places are in order.
   pub there : (n : ℕ) (i : Insn) → slice_get sequence.insns n ≡ Some i → (j : Insn) × (insn_at p.bundles (at n) ≡ Some j) × DoesLike i j
   pub rises : (n m : ℕ) → n < m → m < length sequence.insns → IsBefore (at n) (at m)
   -- Every other place has a nop.

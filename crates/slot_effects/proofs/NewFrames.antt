@@ -13,7 +13,7 @@ use Rattle.ia_meaning.specs.Frames.{with_sizes, allocated}
 use Rattle.frame_shapes.specs.Faults.{alloc_fault_within, alloc_fault}
 use Rattle.slot_effects.specs.Changes.{set_at}
 
--- a register is in the new frame exactly where its number is small enough
+-- A register is in the new frame exactly where its number is small enough.
 pub outside_new : (f : FrameShape) (sof sol sor r : ℕ) → 32 + sof ≤ r → spot (with_sizes f sof sol sor) r ≡ None
 unfolding spot
 outside_new f sof sol sor r h = grind arith
@@ -30,7 +30,7 @@ not_at_place : (old new : FrameShape) (d : Spot) (pfs : ℕ) (m : Memory) (k : F
 unfolding alloc_fault_within
 not_at_place old new d pfs m k fault = grind arith
 
--- an `alloc` whose target is in the new frame
+-- An `alloc` whose target is in the new frame.
 pub allocated_fits : (old new : FrameShape) (r pfs : ℕ) (m : Memory) → spot new r ≢ None → alloc_fault old new ≡ None → allocated old new (spot new r) pfs m ≡ falls (SetFrame Resized new ∷ set_at (spot new r) (record { value = pfs; nat = false }) []) m
 allocated_fits old new r pfs m some fault = by_place (spot new r) refl
   where

@@ -7,7 +7,7 @@ use Rattle.ia_meaning.specs.Moves.{word_from, predicate_word}
 abbrev pub value_at : ℕ → Bool → ℕ
 value_at n b = if b then 2 ^ n else 0
 
--- one more bit, from the k-th on
+-- One more bit, from the k-th on.
 more_from : (k n : ℕ) (bs : List Bool) → word_from k (take (suc n) bs) ≡ word_from k (take n bs) + value_at (k + n) (get_or bs n false)
 more_from k zero [] = refl
 more_from k (suc n) [] = refl

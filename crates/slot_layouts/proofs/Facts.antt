@@ -29,14 +29,14 @@ abbrev pub is_b : SlotClass → Bool
 is_b B = true
 is_b class = false
 
--- the template's bundle of nops: where stops and places are concerned, each bundle of the template is as this
+-- The template's bundle of nops: where stops and places are concerned, each bundle of the template is as this.
 abbrev pub blank : ℕ → Bundle
 blank code = filled code [] []
 
 abbrev pub last_place : ℕ → ℕ
 last_place code = last_slot (blank code).slots
 
--- three units, of which the second is L or none is
+-- Three units, of which the second is L or none is.
 abbrev pub is_narrow : ExecutionUnit → Bool
 is_narrow units.L = false
 is_narrow units.X = false
@@ -47,7 +47,7 @@ is_shape (u ∷ units.L ∷ x ∷ []) = is_narrow u
 is_shape (u ∷ v ∷ w ∷ []) = is_narrow u && (is_narrow v && is_narrow w)
 is_shape us = false
 
--- the tests of stops
+-- The tests of stops.
 abbrev pub is_no_stop : ℕ → ℕ → ℕ → Bool
 is_no_stop code from slot = not (nat_le from slot && has_stop (blank code) slot)
 
@@ -74,7 +74,7 @@ abbrev pub is_as : Bool → Bool → Bool
 is_as true b = b
 is_as false b = not b
 
--- a test of each two neighbours and their slots, of the last one and its slot, of the first one, and of each slot
+-- A test of each two neighbours and their slots, of the last one and its slot, of the first one, and of each slot.
 abbrev pub each_pair : (Wanted → Wanted → ℕ → ℕ → Bool) → List Wanted → List ℕ → Bool
 each_pair p (w ∷ x ∷ ws) (k ∷ l ∷ ks) = p w x k l && each_pair p (x ∷ ws) (l ∷ ks)
 each_pair p ws ks = true
@@ -92,7 +92,7 @@ abbrev pub each_slot : (ℕ → Bool) → List ℕ → Bool
 each_slot p [] = true
 each_slot p (k ∷ ks) = p k && each_slot p ks
 
--- what holds of them
+-- What holds of them.
 abbrev pub pair_holds : ℕ → Wanted → Wanted → ℕ → ℕ → Bool
 pair_holds code w x k l =
     stop_in_where x.gap code k l
@@ -147,7 +147,7 @@ hold_if_some ws end (Some layout) = facts ws end layout.0 layout.1
 abbrev facts_hold : List Wanted → Bool
 facts_hold ws = each_bool (λ end. hold_if_some ws end (laid_out ws end))
 
--- the front of a list, all but its last one, has a layout where the whole has one
+-- The front of a list, all but its last one, has a layout where the whole has one.
 abbrev front_of : List Wanted → List Wanted
 front_of [] = []
 front_of (w ∷ []) = []
@@ -160,7 +160,7 @@ is_laid_out_if whole (w ∷ ws) = not (is_some whole) || is_some (laid_out (w �
 abbrev front_holds : List Wanted → Bool
 front_holds ws = each_bool (λ end. is_laid_out_if (laid_out ws end) (front_of ws))
 
--- with a stop at the end: the same slots, and the next code
+-- With a stop at the end: the same slots, and the next code.
 abbrev same_slots : List ℕ → List ℕ → Bool
 same_slots [] [] = true
 same_slots (k ∷ ks) (l ∷ ls) = (k == l) && same_slots ks ls
@@ -197,7 +197,7 @@ facts_at ws end code ks is =
     let here : hold_if_some ws end (laid_out ws end) ≡ true = at_bool (λ end. hold_if_some ws end (laid_out ws end)) (all_hold ws).0 end in
     facts_of ws end code ks (subst (λ l. hold_if_some ws end l ≡ true) is here)
 
--- each single instruction has a layout
+-- Each single instruction has a layout.
 singles : (g : Bool) → each_class (λ a. each_bool (λ end. is_some (laid_out (wanted a g ∷ []) end))) ≡ true
 unfolding laid_out first_below
 singles g = refl
@@ -213,7 +213,7 @@ front_of-append [] x = refl
 front_of-append (w ∷ []) x = refl
 front_of-append (w ∷ y ∷ ws) x = ap (λ (l : List Wanted). w ∷ l) (front_of-append (y ∷ ws) x)
 
--- a list without its last one has a layout where the whole has one
+-- A list without its last one has a layout where the whole has one.
 pub front_is_laid_out : (w : Wanted) (ws : List Wanted) (x : Wanted) (end : Bool) → IsSome (laid_out (w ∷ ws ++ x ∷ []) end) → IsSome (laid_out (w ∷ ws) false)
 front_is_laid_out w ws x end whole =
     let list = w ∷ ws ++ x ∷ [] in
@@ -240,7 +240,7 @@ same_layout-true (Some a) (Some b) h =
     let f : a.1 ≡ b.1 = same_slots-true a.1 b.1 (right (a.0 == b.0) (same_slots a.1 b.1) h) in
     ap (λ (code : ℕ). Some (code, a.1)) e ∙ ap (λ (ks : List ℕ). Some (b.0, ks)) f
 
--- with a stop at the end a list takes the same slots and the next code
+-- With a stop at the end a list takes the same slots and the next code.
 pub end_takes_next_code : (ws : List Wanted) → laid_out ws true ≡ option_map (λ layout. (layout.0 + 1, layout.1)) (laid_out ws false)
 end_takes_next_code ws =
     same_layout-true (laid_out ws true) (with_next_code (laid_out ws false)) (all_hold ws).1.1

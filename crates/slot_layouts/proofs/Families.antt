@@ -33,7 +33,7 @@ use Rattle.ia_program.specs.Listed.{IsListed}
 use Rattle.slot_layouts.specs.declared.classes.SlotClass.TheVariants.{A, I, M, F, X}
 use Rattle.slot_layouts.specs.Classes.{class_of, has_place}
 
--- the instructions of each family have its class
+-- The instructions of each family have its class.
 is_a : (qp : ℕ) (x : Op) → AsRow rows_a (row_index_a (opcode_of x)) (record { qp = qp; op = x }) → class_of x ≡ A
 is_a qp x h = grind arith
 
@@ -49,11 +49,11 @@ is_f qp x h = grind arith
 is_x : (qp : ℕ) (x : Op) → AsRow rows_x (row_index_x (opcode_of (slot_op x))) (record { qp = qp; op = slot_op x }) → class_of x ≡ X
 is_x qp x h = grind arith
 
--- those of the B family stand in the slots of theirs
+-- Those of the B family stand in the slots of theirs.
 branch_place : (qp : ℕ) (x : Op) (u : ExecutionUnit) (slot : ℕ) → AsRow rows_b (row_index_b (opcode_of x)) (record { qp = qp; op = x }) → IsTrue (has_place (class_of x) u slot) ↔ ((u ≡ units.B) × IsBranchSlot x slot)
 branch_place qp x u slot h = grind (arith, nat_tests)
 
--- the place of a class is one of its family
+-- The place of a class is one of its family.
 of_a : (i : Insn) (u : ExecutionUnit) (slot : ℕ) → IsListedA i → has_place A u slot ≡ true → FitsUnit i u slot
 of_a i units.M slot listed h = inl listed
 of_a i units.I slot listed h = inl listed
@@ -92,7 +92,7 @@ kind_of i u slot (inr (inr (inr (inr (inr a))))) h = of_x i u slot a (rw (is_x i
 pub place_fits : (i : Insn) (u : ExecutionUnit) (slot : ℕ) → slot < 3 → IsListed i → IsTrue (has_place (class_of i.op) u slot) → Fits i u slot
 place_fits i u slot less listed h = record { place = less; kind = kind_of i u slot listed h }
 
--- the class of an instruction that fits has this place
+-- The class of an instruction that fits has this place.
 from_kind : (i : Insn) (u : ExecutionUnit) (slot : ℕ) → FitsUnit i u slot → has_place (class_of i.op) u slot ≡ true
 from_kind i units.M slot (inl a) = rw (is_a i.qp i.op (row_a i a)) refl
 from_kind i units.M slot (inr a) = rw (is_m i.qp i.op (row_m i a)) refl
@@ -106,6 +106,6 @@ from_kind i units.X slot (a, k) = rw (is_x i.qp i.op (row_of_x i a).0) (eq-eqb s
 pub fits_place : (i : Insn) (u : ExecutionUnit) (slot : ℕ) → Fits i u slot → IsTrue (has_place (class_of i.op) u slot)
 fits_place i u slot fits = from_kind i u slot fits.kind
 
--- of a listed instruction, the places of its class are those that it fits
+-- Of a listed instruction, the places of its class are those that it fits.
 pub place_is_fit : (i : Insn) (u : ExecutionUnit) (slot : ℕ) → slot < 3 → IsListed i → IsTrue (has_place (class_of i.op) u slot) ↔ Fits i u slot
 place_is_fit i u slot less listed = (place_fits i u slot less listed, fits_place i u slot)

@@ -32,7 +32,7 @@ use Rattle.slot_layouts.proofs.Facts.{blank, last_place, is_narrow, is_shape}
 use Rattle.slot_layouts.proofs.Families.{place_fits}
 use Rattle.slot_layouts.proofs.FirstLayouts.{is_template}
 
--- the instructions change neither which places there are nor where the stops are
+-- The instructions change neither which places there are nor where the stops are.
 stops_of_contents : (code slot : ℕ) (us : List ExecutionUnit) (ks : List ℕ) (is : List Insn) → stops_after code (contents us ks is) slot ≡ stops_after code (contents us [] []) slot
 stops_of_contents code slot [] ks is = refl
 stops_of_contents code slot (u ∷ []) ks is = refl
@@ -80,7 +80,7 @@ put_at (u ∷ v ∷ w ∷ []) ks is (suc (suc (suc slot))) shape less = absurd (
 put_at (u ∷ units.L ∷ w ∷ x ∷ us) ks is slot shape less = absurd (cc)
 put_at (u ∷ v ∷ w ∷ x ∷ us) ks is slot shape less = absurd (cc)
 
--- rising slots
+-- Rising slots.
 pub rising_pair : (k l : ℕ) (ks : List ℕ) → are_rising (k ∷ l ∷ ks) ≡ true → (k < l) × (are_rising (l ∷ ks) ≡ true)
 rising_pair k l ks h = (ltb-true k l (left _ _ h), right _ _ h)
 
@@ -98,7 +98,7 @@ pub rest_rises : (k : ℕ) (ks : List ℕ) → are_rising (k ∷ ks) ≡ true �
 rest_rises k [] h = refl
 rest_rises k (l ∷ ks) h = (rising_pair k l ks h).1
 
--- the slot of an instruction holds it
+-- The slot of an instruction holds it.
 pub content-listed : (u : ExecutionUnit) (n k : ℕ) (i : Insn) (ks : List ℕ) (is : List Insn) → are_rising ks ≡ true → slice_get ks n ≡ Some k → slice_get is n ≡ Some i
     → slot_content k u ks is ≡ i
 content-listed u n k i [] is rising at there = absurd (cc)
@@ -112,7 +112,7 @@ content-listed u (suc n) k i (l ∷ ks) (j ∷ is) rising at there =
     let other : eqb k l ≡ false = grind arith in
     rw other (content-listed u n k i ks is (rest_rises l ks rising) at there)
 
--- the slot of none holds the nop
+-- The slot of none holds the nop.
 pub content-other : (u : ExecutionUnit) (slot : ℕ) (ks : List ℕ) (is : List Insn) → ((n : ℕ) → slice_get ks n ≢ Some slot) → slot_content slot u ks is ≡ nop_of u
 content-other u slot [] is none = refl
 content-other u slot (k ∷ ks) [] none = refl
@@ -122,7 +122,7 @@ content-other u slot (k ∷ ks) (i ∷ is) none = of (eqb slot k) refl (content-
     of true same rest = absurd (none 0 (let e : slot ≡ k = eqb-true slot k same in cc))
     of false same rest = rest
 
--- nops fit
+-- Nops fit.
 nop_fits : (u : ExecutionUnit) (k : ℕ) → k < 3 → is_narrow u ≡ true → Fits (nop_of u) u k
 unfolding rows_m rows_i rows_f rows_b listed
 nop_fits units.M k h narrow = record { place = h; kind = inr (of_row_m _ (grind arith)) }
@@ -136,7 +136,7 @@ long_nop_fits : Fits (nop_of units.L) units.L 1
 unfolding rows_x listed
 long_nop_fits = record { place = lit< tt; kind = (of_row_x _ (grind arith) (lit< tt), refl) }
 
--- what stands in a slot fits it, where the nop does
+-- What stands in a slot fits it, where the nop does.
 content_fits : (us : List ExecutionUnit) (ws : List Wanted) (ks : List ℕ) (is : List Insn) (k : ℕ) (u : ExecutionUnit) → slice_get us k ≡ Some u → k < 3
     → all_fit us ws ks ≡ true → AreOf ws is → Fits (nop_of u) u k → Fits (slot_content k u ks is) u k
 content_fits us [] [] is k u at less fit of nop = nop
@@ -176,7 +176,7 @@ contents_fit (u ∷ v ∷ w ∷ []) ws ks is shape fit of =
 contents_fit (u ∷ units.L ∷ w ∷ x ∷ us) ws ks is shape fit of = absurd (cc)
 contents_fit (u ∷ v ∷ w ∷ x ∷ us) ws ks is shape fit of = absurd (cc)
 
--- the units of a template
+-- The units of a template.
 shapes : all_below (λ code. is_none (shape_of (code / 2)) || is_shape (units_of code)) 32 ≡ true
 shapes = refl
 
@@ -189,7 +189,7 @@ shape_of_template code template =
     of None b some h = absurd (cc)
     of (Some shape) b some h = h
 
--- a template with a layout of the classes of listed instructions makes a bundle of these
+-- A template with a layout of the classes of listed instructions makes a bundle of these.
 pub filled_is_bundle : (ws : List Wanted) (end : Bool) (code : ℕ) (ks : List ℕ) (is : List Insn) → is_layout code ws end ks ≡ true → AreOf ws is
     → IsTemplate code × IsBundle (filled code ks is)
 filled_is_bundle ws end code ks is layout of =

@@ -17,7 +17,7 @@ use Rattle.ia_meaning.proofs.Sequences.{stop_same}
 use Rattle.slot_layouts.specs.declared.layout.Wanted.{Wanted}
 use Rattle.slot_layouts.specs.Layouts.{fits_slot, all_fit, are_rising, has_none_before, stops_are_wanted, has_stop_where, is_layout, rising_slots, least_slots, first_below, laid_out}
 
--- what is found passes the test
+-- What is found passes the test.
 pub found_passes : (p : List ℕ → Bool) (lists : List (List ℕ)) (ks : List ℕ) → find p lists ≡ Some ks → p ks ≡ true
 found_passes p [] ks h = absurd (cc)
 found_passes p (ls ∷ lists) ks h = of (p ls) refl h (found_passes p lists ks)
@@ -43,12 +43,12 @@ below_is_layout (suc code) ws end l h = of (first_below code ws end) refl h (bel
     of None is h earlier = with_code ws end code (least_slots code ws end) l refl h
     of (Some first) is h earlier = earlier (cc)
 
--- what is laid out is a layout
+-- What is laid out is a layout.
 pub laid_out_is_layout : (ws : List Wanted) (end : Bool) (code : ℕ) (ks : List ℕ) → laid_out ws end ≡ Some (code, ks) → is_layout code ws end ks ≡ true
 unfolding laid_out
 laid_out_is_layout ws end code ks h = below_is_layout 32 ws end (code, ks) h
 
--- not as many instructions as slots
+-- Not as many instructions as slots.
 unlike : (units : List ExecutionUnit) (ws : List Wanted) (ks : List ℕ) → length ks ≢ length ws → all_fit units ws ks ≡ false
 unlike units [] [] h = absurd (h refl)
 unlike units [] (k ∷ ks) h = refl
@@ -109,7 +109,7 @@ too_long w x y z ws end =
     none_below 32 (w ∷ x ∷ y ∷ z ∷ ws) end
     (λ code. none_found (is_layout code (w ∷ x ∷ y ∷ z ∷ ws) end) rising_slots (λ ks short. unlike_layout code (w ∷ x ∷ y ∷ z ∷ ws) end ks (λ e. omega (arith, e, short))) refl)
 
--- the test of the stops of a template
+-- The test of the stops of a template.
 pub stop_is_one_of : (code slot : ℕ) (b : Bool) → IsTrue b ↔ Contains (stops_of code) slot → b ≡ is_one_of slot (stops_of code)
 unfolding is_stopped
 stop_is_one_of code slot b h =
@@ -117,7 +117,7 @@ stop_is_one_of code slot b h =
     let bundle : Bundle = record { template = code; slots = Three nop nop nop } in
     stop_same (bundle ∷ []) (record { bundle = 0; slot = slot }) b h
 
--- one slot more is counted, or none
+-- One slot more is counted, or none.
 pub one_more : (p : ℕ → Bool) (slot : ℕ) → slot < 3 → p slot ≡ true
     → length (filter p (take slot (0 ∷ 1 ∷ 2 ∷ []))) + 1 ≡ length (filter p (take (slot + 1) (0 ∷ 1 ∷ 2 ∷ [])))
 one_more p zero less is = rw is refl
@@ -142,7 +142,7 @@ no_more p (suc zero) less is = rw is refl
 no_more p (suc (suc zero)) less is = rw is refl
 no_more p (suc (suc (suc slot))) less is = absurd (omega arith)
 
--- a list that fails the test is passed by
+-- A list that fails the test is passed by.
 passed_by : (p : List ℕ → Bool) (lists : List (List ℕ)) (n : ℕ) → false ≡ p (get_or lists n []) → find p (drop (suc n) lists) ≡ find p (drop n lists)
 passed_by p [] zero fails = refl
 passed_by p [] (suc n) fails = refl
@@ -153,7 +153,7 @@ pub passed : (p : List ℕ → Bool) (n : ℕ) (ks : List ℕ) → false ≡ p k
     → find p (drop (n + 1) rising_slots) ≡ find p (drop n rising_slots)
 passed p n ks fails is = rw (add-one n) (passed_by p rising_slots n (subst (λ l. false ≡ p l) is fails))
 
--- the loop over the codes
+-- The loop over the codes.
 else_found : {T : Type 0} (a b : Option T) (x : T) → a ≡ None → b ≡ Some x → option_or a b ≡ Some x
 else_found None b x h k = k
 else_found (Some y) b x h k = absurd (cc)
@@ -202,7 +202,7 @@ none_fit stops [] (k ∷ ks) fit before = absurd (cc)
 none_fit stops (w ∷ ws) [] fit before = absurd (cc)
 none_fit stops (w ∷ ws) (k ∷ ks) fit before = absurd (cc)
 
--- a code with a layout is that of a template
+-- A code with a layout is that of a template.
 pub is_template : (code : ℕ) (ws : List Wanted) (end : Bool) (ks : List ℕ) → is_layout code ws end ks ≡ true → IsTemplate code
 is_template code ws end ks layout =
     of (shape_of (code / 2)) (left _ _ layout) (left _ _ (right (are_rising ks) _ (right (all_fit (units_of code) ws ks) _ layout)))

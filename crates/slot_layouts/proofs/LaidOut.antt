@@ -91,7 +91,7 @@ rising_at (j ∷ m ∷ ks) (suc n) k l rising at there = rising_at (m ∷ ks) n 
 after : {T : Type 0} (xs : List T) (n : ℕ) (x : T) → slice_get xs (n + 1) ≡ Some x → slice_get xs (suc n) ≡ Some x
 after xs n x h = subst (λ m. slice_get xs m ≡ Some x) (add-one n) h
 
--- the bundle holds the instructions in their order
+-- The bundle holds the instructions in their order.
 inside_at : (code : ℕ) (ks : List ℕ) (is : List Insn) (n k : ℕ) → each_slot (λ k. nat_le k (last_place code)) ks ≡ true → slice_get ks n ≡ Some k → k ≤ last_place code
 inside_at code ks is n k all at = leb-true k (last_place code) (slot_at (λ k. nat_le k (last_place code)) ks n k all at)
 
@@ -118,7 +118,7 @@ holds_in_order ws end code ks is laid = record {
         let put : IsPut (units_of code) ks is slot = put_at (units_of code) ks is slot known.shape (subst (λ m. slot ≤ m) last inside) in
         ap (option_map nop_of) put.at ∙ ap (λ (i : Insn). Some i) (sym (content-other put.unit slot ks is none)) ∙ sym put.here ∙ at
 
--- the stops are those that are wanted
+-- The stops are those that are wanted.
 not_both : (a b : Bool) → not (a && b) ≡ true → a ≡ true → b ≡ false
 not_both true true h is = absurd (cc)
 not_both true false h is = refl
@@ -181,7 +181,7 @@ has_stops_as_wanted ws end code ks is laid = record {
         let one = last_at (last_holds code) ws ks n k known.last count at end in
         subst (λ m. HasNoStop (filled code ks is) k m) (sym (last_slot-filled code ks is)) (no_stop code k (last_place code) ks is (left _ _ one.holds))
 
--- what stands beside
+-- What stands beside.
 m_or_a : (w : Wanted) → (w.class ≡ M) ⊎ (w.class ≡ A) → is_m_or_a w.class ≡ true
 m_or_a w (inl is) = ap is_m_or_a is
 m_or_a w (inr is) = ap is_m_or_a is

@@ -9,7 +9,7 @@ use Rattle.slot_layouts.specs.declared.layout.Wanted.{Wanted}
 abbrev pub wanted : SlotClass → Bool → Wanted
 wanted class gap = record { class = class; gap = gap }
 
--- a test of each class, and of each Bool
+-- A test of each class, and of each Bool.
 abbrev pub each_class : (SlotClass → Bool) → Bool
 each_class p = (((((p A && p I) && p M) && p F) && p B) && p Loop) && p X
 
@@ -47,7 +47,7 @@ pub at_bool : (p : Bool → Bool) → each_bool p ≡ true → (b : Bool) → p 
 at_bool p h true = left (p true) (p false) h
 at_bool p h false = right (p true) (p false) h
 
--- a test of each list of one, of two and of three, whose first gap is given
+-- A test of each list of one, of two and of three, whose first gap is given.
 abbrev pub each_one : (List Wanted → Bool) → Bool → Bool
 each_one t g = each_class (λ a. t (wanted a g ∷ []))
 
@@ -65,7 +65,7 @@ pub record HoldsUpToThree (t : List Wanted → Bool) : Type 0 where
   pub two : (g : Bool) → each_two t g ≡ true
   pub three : (g : Bool) → each_three t g ≡ true
 
--- where it holds of the longer ones too, it holds of each list
+-- Where it holds of the longer ones too, it holds of each list.
 pub for_every : (t : List Wanted → Bool) → HoldsUpToThree t → ((w x y z : Wanted) (ws : List Wanted) → t (w ∷ x ∷ y ∷ z ∷ ws) ≡ true) → (ws : List Wanted) → t ws ≡ true
 for_every t holds more [] = holds.none
 for_every t holds more (w ∷ []) = at_class (λ a. t (wanted a w.gap ∷ [])) (holds.one w.gap) w.class
@@ -83,7 +83,7 @@ for_every t holds more (w ∷ x ∷ y ∷ []) =
     at_bool (list w.class x.class x.gap y.class) at_c y.gap
 for_every t holds more (w ∷ x ∷ y ∷ z ∷ ws) = more w x y z ws
 
--- a test of some number below a bound
+-- A test of some number below a bound.
 abbrev pub any_below : (ℕ → Bool) → ℕ → Bool
 any_below p zero = false
 any_below p (suc n) = p n || any_below p n
@@ -96,7 +96,7 @@ some_below p (suc n) h =
       | inr less ↦ some_below p n less
     ]
 
--- a premise and what it entails
+-- A premise and what it entails.
 pub entailed : (a b : Bool) → (not a || b) ≡ true → a ≡ true → b ≡ true
 entailed true b h k = h
 entailed false b h k = absurd (cc)

@@ -41,7 +41,7 @@ in_range p place insn program here =
     let most = program.counts.bundles in
     record { bundle = omega (arith, inside, most); ranges = action_ranges insn.op (ranges_of_listed insn (listed_at p place insn program here)) }
 
--- a slot at a place is that of the instruction there
+-- A slot at a place is that of the instruction there.
 pub slot_is : (bundles : List Bundle) (place : Place) (slot : Slot) → slot_at bundles place ≡ Some slot → IsSlotOf bundles place slot
 unfolding slot_at
 slot_is bundles place slot at = of (insn_at bundles place) refl at
@@ -50,7 +50,7 @@ slot_is bundles place slot at = of (insn_at bundles place) refl at
     of None here e = absurd cc
     of (Some insn) here e = record { insn = insn; here = here; is = same_Some _ _ e }
 
--- where there is no slot there is no place
+-- Where there is no slot there is no place.
 pub not_place : (bundles : List Bundle) (place : Place) → slot_at bundles place ≡ None → IsPlaceOf bundles place → ⊥
 unfolding slot_at
 not_place bundles place none is = of (insn_at bundles place) refl none
@@ -72,24 +72,24 @@ edge_of-slot : (bundles : List Bundle) (place : Place) (insn : Insn) (e : Edge) 
 edge_of-slot bundles place insn Falls = refl
 edge_of-slot bundles place insn Taken = refl
 
--- the edges of a slot are those of the program
+-- The edges of a slot are those of the program.
 pub slot_edges : (p : Program) (from : Place) (slot : Slot) (e : Edge) (r : Option Place) → IsProgram p → slot_at p.bundles from ≡ Some slot → r ≡ edge_from slot e → MatchOption r ((to : Place) → HasEdge p from e to → ⊥) (λ to. HasEdge p from e to)
 slot_edges p from slot e r program at leads =
     let s = slot_is p.bundles from slot at in
     is_edge_end p from s.insn e r program s.here (leads ∙ ap (λ (q : Slot). edge_from q e) (sym s.is) ∙ edge_of-slot p.bundles from s.insn e)
 
--- what is known past a slot is what is known past its place
+-- What is known past a slot is what is known past its place.
 pub pairs_by-slot : (p : Program) (from : Place) (slot : Slot) (e : Edge) (f : Pairs) → slot_at p.bundles from ≡ Some slot → pairs_by f (action_rule slot.action e slot.qp) ≡ pairs_past p from e f
 unfolding pairs_past pairs_after rule_of
 pairs_by-slot p from slot e f at =
     let s = slot_is p.bundles from slot at in
     ap (λ (q : Slot). pairs_by f (action_rule q.action e q.qp)) (sym s.is) ∙ ap (λ (o : Option Insn). pairs_past_insn o e f) (sym s.here)
 
--- a slot above 2 is at no place
+-- A slot above 2 is at no place.
 pub no_slot_above : (bundles : List Bundle) (place : Place) → 2 < place.slot → None ≡ slot_at bundles place
 no_slot_above bundles place above = sym (no_slot bundles place (λ is. let small = slot_small bundles place is in omega arith))
 
--- a list of the slots of all places, in order, has the slot of each
+-- A list of the slots of all places, in order, has the slot of each.
 pub filled : (bundles : List Bundle) (slots : List (Option Slot)) → length slots ≡ 3 * length bundles → ((n : ℕ) → n < length slots → get_or slots n None ≡ slot_at bundles (place_at n)) → (n : ℕ) → get_or slots n None ≡ slot_at bundles (place_at n)
 filled bundles slots size each n = by_end (cases_lt n (length slots))
   where

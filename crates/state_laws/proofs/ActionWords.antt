@@ -14,7 +14,7 @@ use Rattle.ia_meaning.specs.declared.action.Action.TheVariants.{Compute, ToAppli
 use Rattle.ia_meaning.specs.Actions.{addition, action_of, value_of, moved}
 use Rattle.state_laws.proofs.Words.{immediate_word, alu_word, shift_add_word, lanes_word, shift_word, shift_pair_word, extract_word, deposit_word, extend_word, ones_word}
 
--- what it computes and moves of words are words, and its numbers are in range
+-- What it computes and moves of words are words, and its numbers are in range.
 abbrev pub HasActionWords : Action → Type 0
 HasActionWords (Compute r1 r2 r3 f) = (a b : ℕ) → IsWord a → IsWord b → IsWord (value_of f a b)
 HasActionWords (ToApplication ar r2 w) = (a : ℕ) → IsWord a → IsWord (moved w a)

@@ -71,7 +71,7 @@ pub spilled_keeps : (o : Option (ℕ × Bool)) (r : Registers) → IfSome o (λ 
 spilled_keeps None r small h = h
 spilled_keeps (Some b) r small h = put_keeps (SetUnat (with_bit r.unat b.0 b.1)) r (with_bit_word r.unat b.0 b.1 small h.unat) h
 
--- writes of general registers and of predicates
+-- Writes of general registers and of predicates.
 pub spot_in_range : (d : Spot) (c : Cell) (ws : List Write) → IsWord c.value → Each IsInRange ws → Each IsInRange (set_spot d c ws)
 spot_in_range (Static zero) c ws h rest = rest
 spot_in_range (Static (suc n)) c ws h rest = (((λ e. absurd (omega arith)), h), rest)

@@ -20,7 +20,7 @@ use Rattle.ia_meaning.specs.Loads.{with_bytes, stored, is_spot, is_apart, invali
 use Rattle.ia_meaning.proofs.AlatLists.{untouched_is_filter, invalidated_is_filter}
 use Rattle.ia_meaning.proofs.DataAccesses.{length-with_bytes}
 
--- the entries of a memory
+-- The entries of a memory.
 pub record AreEntries (count : ℕ) (es : List AlatEntry) : Type 0 where
   pub most : length es ≤ 32
   pub entries : All (IsAlatEntry count) es
@@ -53,7 +53,7 @@ spot_itself (Stacked n) (Stacked k) h = let e : n ≡ k = cc in grind (arith, na
 spot_itself (Static n) (Stacked k) h = absurd (cc)
 spot_itself (Stacked n) (Static k) h = absurd (cc)
 
--- no entry of the key is left
+-- No entry of the key is left.
 abbrev pub HasOther : Spot → AlatEntry → Type 0
 HasOther d e = e.key ≢ d
 
@@ -85,14 +85,14 @@ entered_entries count es e is h =
       apart = all_pairs_push (λ d e. d.key ≢ e.key) (drop n left) e (dropped_pairs (λ d e. d.key ≢ e.key) n left f.apart) (λ k d i. All-drop (HasOther e.key) n left (each_other e.key es) k d i);
     }
 
--- the entries and the bytes as a memory
+-- The entries and the bytes as a memory.
 pub entries_of : (p : Program) (m : Memory) → IsMemory p m → AreEntries (length m.bytes) m.alat
 entries_of p m h = record { most = h.most; entries = h.entries; apart = h.apart }
 
 pub with_entries : (p : Program) (m : Memory) (es : List AlatEntry) → IsMemory p m → AreEntries (length m.bytes) es → IsMemory p (record m { alat = es })
 with_entries p m es h e = record { count = h.count; bytes = h.bytes; most = e.most; entries = e.entries; apart = e.apart }
 
--- what is stored are bytes
+-- What is stored are bytes.
 bytes_set : (bytes : List ℕ) (at x : ℕ) → AreBytes bytes → x < 256 → AreBytes (set bytes at x)
 bytes_set bytes at x h small i = by_place (cases_eq i at) (cases_lt i (length bytes))
   where
@@ -115,7 +115,7 @@ stored_memory p m address size x h =
     let e = subst (λ (n : ℕ). AreEntries n (untouched m.alat address size)) (sym same) (untouched_entries (length m.bytes) m.alat address size (entries_of p m h)) in
     record { count = same ∙ h.count; bytes = bytes_with size (address - data_base) x m.bytes h.bytes; most = e.most; entries = e.entries; apart = e.apart }
 
--- what a load leaves of the entries
+-- What a load leaves of the entries.
 pub load_entries : (count : ℕ) (kind : LoadKind) (e : AlatEntry) (es : List AlatEntry) → IsAlatEntry count e → AreEntries count es → AreEntries count (load_alat kind e es)
 load_entries count load.A e es is h = entered_entries count es e is h
 load_entries count load.Sa e es is h = entered_entries count es e is h

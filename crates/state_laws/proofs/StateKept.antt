@@ -64,13 +64,13 @@ use Rattle.state_laws.proofs.Memories.{AreEntries, invalidated_entries, load_ent
 use Rattle.state_laws.proofs.FrameParts.{IsFrameWithin, sized_frame, rotated_within, cleared_within, called_within, returned_within, call_state_in_range}
 use Rattle.state_laws.proofs.ActionWords.{HasActionWords, action_words}
 
--- an outcome that keeps a state
+-- An outcome that keeps a state.
 record IsOutcomeInRange (p : Program) (o : Outcome) : Type 0 where
   writes : Each IsInRange o.writes
   memory : IsMemory p o.memory
   spills : IfSome o.spills (λ b. b.0 < 64)
 
--- what tests and moves write
+-- What tests and moves write.
 test_in_range : (f : FrameShape) (kind : CmpKind) (p q : ℕ) (x : Option Bool) → Each IsInRange (test_writes kind (predicate_spot f p) (predicate_spot f q) x)
 test_in_range f Normal p q (Some b) = predicate_in_range f p _ _ (predicate_in_range f q _ [] tt)
 test_in_range f Normal p q None = predicate_in_range f p _ _ (predicate_in_range f q _ [] tt)
@@ -92,7 +92,7 @@ moved_in_range : (mask x : ℕ) → Each IsInRange (predicate_writes mask x)
 unfolding predicate_writes
 moved_in_range mask x = masked_in_range 63 1 mask x (λ e. absurd (omega arith))
 
--- what a base register becomes
+-- What a base register becomes.
 base_in_range : (u : Update) (e : Spot) (base more : Cell) → Each IsInRange (base_writes u e base more)
 base_in_range update.None e base more = tt
 base_in_range (update.Reg r2) e base more = spot_in_range e _ [] (word_word (base.value + more.value)) tt
@@ -102,7 +102,7 @@ spills_in_range : (kind : StoreKind) (address : ℕ) (x : Cell) → IfSome (stor
 spills_in_range store.Spill address x = mod_below (address / 8) 64 (omega arith)
 spills_in_range kind address x = tt
 
--- the counts of a loop branch
+-- The counts of a loop branch.
 record AreCounts (t : Turn) : Type 0 where
   lc : IfSome t.lc IsWord
   ec : IfSome t.ec (λ n. n < 64)
@@ -145,7 +145,7 @@ unfolding has_reserved_zeros
 reserved_zeros x h = search rules
 
 module _ (p : Program) (s : Site) (r : Registers) (m : Memory) (unat : ℕ) (below : s.bundle < 2 ^ 31) (h : AreRegisters r) (mem : IsMemory p m) where
-  -- outcomes that leave the memory, or change its entries
+  -- Outcomes that leave the memory, or change its entries.
   fell : (ws : List Write) → Each IsInRange ws → IsOutcomeInRange p (falls ws m)
   fell ws w = record { writes = w; memory = mem; spills = tt }
 
@@ -240,7 +240,7 @@ module _ (p : Program) (s : Site) (r : Registers) (m : Memory) (unat : ℕ) (bel
   settled_in_range None (Faults kind) o f = f
   settled_in_range (Some next) way o f = f
 
--- the parts of a state but for its place
+-- The parts of a state but for its place.
 record IsStored (p : Program) (s : State) : Type 0 where
   registers : AreRegisters s.registers
   memory : IsMemory p s.memory

@@ -19,7 +19,7 @@ use Rattle.ia_meaning.specs.Moves.{application, source_value}
 use Rattle.rotation.proofs.Indexes.{within}
 use Rattle.state_laws.proofs.Words.{predicates_word}
 
--- what a register holds is a word
+-- What a register holds is a word.
 cell_word : (xs : List Cell) → AreCells xs → (k : ℕ) → IsWord (get_or xs k zero_cell).value
 cell_word xs h k = by_place (cases_lt k (length xs))
   where
@@ -47,7 +47,7 @@ unfolding look
 look_word r h zero c e = same_cell zero_cell c e (omega arith)
 look_word r h (suc n) c e = spot_word r h (spot r.frame (suc n)) c e
 
--- the place of a register other than r0 is a key
+-- The place of a register other than r0 is a key.
 pub spot_key : (f : FrameShape) → IsFrame f → f.base + f.sof ≤ STACK_LIMIT → (r : ℕ) (d : Spot) → r ≢ 0 → spot f r ≡ Some d → IsKey d
 unfolding spot
 spot_key f frame most r d some h = by_tests (is_stacked r) (nat_lt (r - 32) f.sof) refl refl h

@@ -16,7 +16,7 @@ counted_more f first (suc k) =
 grown : (front middle last old new : List ℕ) → old ≡ front ++ middle → new ≡ old ++ last → new ≡ front ++ (middle ++ last)
 grown front middle last old new before after = after ∙ ap (λ l. l ++ last) before ∙ append_assoc front middle last
 
--- the text of one number more
+-- The text of one number more.
 pub one_more : (f : ℕ → List ℕ) (first k at next : ℕ) (front old new : List ℕ) → first + k ≡ at → next ≡ k + 1
     → old ≡ front ++ flat_map f (count_up first k) → new ≡ old ++ f at → new ≡ front ++ flat_map f (count_up first next)
 one_more f first k at next front old new here there before after =
@@ -31,14 +31,14 @@ items_more {X} f items i x short is =
     ap (flat_map f) (take_more items i x short ∙ ap (λ (y : X). take i items ++ y ∷ []) (sym is))
     ∙ flat_map-append f (take i items) (x ∷ []) ∙ ap (λ l. flat_map f (take i items) ++ l) (append-nil (f x))
 
--- the text of one item more
+-- The text of one item more.
 pub one_item_more : {X : Type 0} (f : X → List ℕ) (items : List X) (i : ℕ) (x : X) (front old new : List ℕ) → i < length items → x ≡ get_or items i x
     → old ≡ front ++ flat_map f (take i items) → new ≡ old ++ f x → new ≡ front ++ flat_map f (take (i + 1) items)
 one_item_more {X} f items i x front old new short is before after =
     grown front (flat_map f (take i items)) (f x) old new before after
     ∙ ap (λ l. front ++ l) (sym (items_more f items i x short is))
 
--- a text that is written in three pieces
+-- A text that is written in three pieces.
 pub three_pieces : {T E : Type 0} (r : Result T E) (front one two new first second third whole : List ℕ) → one ≡ front ++ first → two ≡ one ++ second
     → OnOk r (new ≡ two ++ third) → first ++ (second ++ third) ≡ whole → OnOk r (new ≡ front ++ whole)
 three_pieces {T} {E} r front one two new first second third whole a b c e =

@@ -10,12 +10,12 @@ missing_zeros : (k : ℕ) → number_padding (format_spec 32 0 4 16 (2 ^ 64 - 1)
 unfolding char_count
 missing_zeros k = omega arith
 
--- what `{:016x}` writes of a word
+-- What `{:016x}` writes of a word.
 pub padded_word : (n : ℕ) → padded_integral (format_spec 32 0 4 16 (2 ^ 64 - 1)) false [] (digits 16 false n) ≡ word_text n
 unfolding padded_integral char_count word_text
 padded_word n = rw (append-nil, missing_zeros (length (digits 16 false n)))
 
--- the n-th word of the data
+-- The n-th word of the data.
 pub word_of_data : (bytes : List ℕ) (n : ℕ) → bytes_at bytes (8 * n) 8 ≡ loaded bytes (data_base + 8 * n) 8
 unfolding loaded
 word_of_data bytes n = let same : 8 * n ≡ data_base + 8 * n - data_base = omega arith in ap (λ at. bytes_at bytes at 8) same

@@ -45,7 +45,7 @@ pub describes_other : (p : Program) (j out : Place) (s : Slot) → (j ≡ out �
 describes_other p j out s apart at =
     with_stop (over_program p) (is_stopped p.bundles) (without_stop p out) j s (without_elsewhere p out j apart) (slot_describes p j s at)
 
--- the second slot of a violation stands at a place
+-- The second slot of a violation stands at a place.
 second_place : (p : Program) (has_stop : Place → Bool) (v : Violation) → ViolatesIn (over_program p) has_stop v → IsPlaceOf p.bundles v.second
 second_place p has_stop v x =
     let from = comes_from (over_program p) has_stop x.walk v.first x.there.walks x.inside in
@@ -55,11 +55,11 @@ second_place p has_stop v x =
 abbrev pub HasNoneBefore : Program → Place → Place → Type 0
 HasNoneBefore p out place = (w : Violation) → ViolatesIn (over_program p) (without_stop p out) w → ¬ IsBefore w.second place
 
--- none has before the place behind the stop before
+-- None has before the place behind the stop before.
 pub cut_none : (p : Program) (behind out : Place) → IsProgram p → IsCut p behind out → HasNoneBefore p out behind
 cut_none p behind out program cut w x low = cut.low (before_trans out w.second behind (violated_behind p out w program cut.free x) low)
 
--- where the window is empty
+-- Where the window is empty.
 pub cut_window : (p : Program) (behind out : Place) → IsCut p behind out → IsWindow (over_program p) (without_stop p out) [] behind
 cut_window p behind out cut = of cut.parted
   where
@@ -70,7 +70,7 @@ cut_window p behind out cut = of cut.parted
         let apart : before ≡ out → ⊥ = λ e. cut.low (subst (λ (q : Place). IsBefore q behind) e n.after) in
         parted_window (over_program p) (without_stop p out) before behind is follows (λ edge. without_elsewhere p out before apart ∙ stopped)
 
--- none before the next place, where none is at this one
+-- None before the next place, where none is at this one.
 pub none_next : (p : Program) (out place next : Place) → HasNoneBefore p out place → ¬ IsViolatedAt (over_program p) (without_stop p out) place → next_of p.bundles place ≡ Some next → HasNoneBefore p out next
 none_next p out place next none here follows w x low = of (place_cases w.second place)
   where
@@ -88,7 +88,7 @@ some_left p out place v x none here last = of (place_cases v.second place)
     of (inr (inl e)) = here (v, x, e)
     of (inr (inr h)) = rw last at (next_fits p.bundles place) v.second (second_place p (without_stop p out) v x) h
 
--- the first violation at the first place that has one is the first of all
+-- The first violation at the first place that has one is the first of all.
 pub first_of_all : (p : Program) (out place : Place) (v : Violation) → HasNoneBefore p out place → IsFirstAt (over_program p) (without_stop p out) place v → IsFirst (over_program p) (without_stop p out) v
 first_of_all p out place v none at = record { violates = at.violates; first = λ w x. of w x (place_cases w.second place) }
   where

@@ -26,7 +26,7 @@ pub record IsDecided (s : Loose) (causes : List (Option Cause)) (n : ℕ) (cause
   pub none : cause ≡ None → ¬ IsPairAt s (take n causes) (n + 1)
   pub pair : cause ≡ Some Pair → IsPairAt s (take n causes) (n + 1)
 
--- as the text and the test say
+-- As the text and the test say.
 decided_by : (s : Loose) (before : List (Option Cause)) (n : ℕ) (written pair long : Bool) → (written ≡ false → Decides pair (IsPairAt s before (n + 1)))
     → (or_long (first_cause written pair) long ≡ None → ¬ IsPairAt s before (n + 1)) × (or_long (first_cause written pair) long ≡ Some Pair → IsPairAt s before (n + 1))
 decided_by s before n true pair long right = (λ e. absurd cc, λ e. absurd cc)
@@ -37,7 +37,7 @@ decided_by s before n false false false right = (λ e x. let wrong : false ≡ t
 abbrev AreDecided : Loose → Packing → List Item → Item → Type 0
 AreDecided s k done before = (n : ℕ) (cause : Option Cause) → slice_get k.causes n ≡ Some cause → IsDecided s k.causes n cause
 
--- one more
+-- One more.
 decided_more : (s : Loose) (causes : List (Option Cause)) (written pair long : Bool) → (written ≡ false → Decides pair (IsPairAt s causes (length causes + 1)))
     → ((n : ℕ) (cause : Option Cause) → slice_get causes n ≡ Some cause → IsDecided s causes n cause)
     → (n : ℕ) (cause : Option Cause) → slice_get (causes ++ or_long (first_cause written pair) long ∷ []) n ≡ Some cause → IsDecided s (causes ++ or_long (first_cause written pair) long ∷ []) n cause

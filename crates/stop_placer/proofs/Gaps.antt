@@ -13,7 +13,7 @@ use Rattle.stop_placer.specs.Packings.{Packing, chunk, or_long, joined, begun}
 use Rattle.stop_placer.specs.Packs.{IsPack}
 use Rattle.stop_placer.proofs.Steps.{is_long, IsKeptEach, kept_each, kept_of}
 
--- the list the other way round, with one more before it
+-- The list the other way round, with one more before it.
 pub reverse_more : {X : Type 0} (x : X) (xs : List X) → reverse (x ∷ xs) ≡ reverse xs ++ x ∷ []
 reverse_more x xs = reverse-append (x ∷ []) xs
 
@@ -34,7 +34,7 @@ pub record HasGaps (k : Packing) (done : List Item) (before : Item) : Type 0 whe
   pub gaps : (end : Bool) → gaps_of (reverse k.closed) ++ gaps_in k.current end ≡ map is_some k.causes ++ end ∷ []
   pub count : length k.causes + 1 ≡ length done
 
--- one gap more
+-- One gap more.
 gaps_next : (gaps : List Bool) (ws : List Wanted) (causes : List (Option Cause)) (cause : Option Cause) (end : Bool)
     → gaps ++ gaps_in ws (is_some cause) ≡ map is_some causes ++ is_some cause ∷ []
     → (gaps ++ gaps_in ws (is_some cause)) ++ end ∷ [] ≡ map is_some (causes ++ cause ∷ []) ++ end ∷ []

@@ -22,7 +22,7 @@ use Rattle.stop_placer.specs.declared.packed.Why.TheVariants as why
 use Rattle.stop_placer.specs.declared.packed.StopWhy.{StopWhy}
 use Rattle.stop_placer.specs.Placing.{without_stop, IsReason, IsExplained, NamesStops}
 
--- there is one first violation
+-- There is one first violation.
 pub one_first : (g : Graph) (has_stop : Place → Bool) (v w : Violation) → IsFirst g has_stop v → IsFirst g has_stop w → v ≡ w
 one_first g has_stop v w a b = of (a.first w b.violates) (b.first v a.violates)
   where
@@ -46,7 +46,7 @@ pair_is p after why.Written r = absurd r
 pair_is p after why.Long r = absurd r
 pair_is p after (why.Pair v) r = (v, r, refl)
 
--- a cause has one reason
+-- A cause has one reason.
 one_reason : (p : Program) (after : Place) (c : Cause) (w x : Why) → IsReason p after c w → IsReason p after c x → w ≡ x
 one_reason p after cause.Written w x a b = written_is p after w a ∙ sym (written_is p after x b)
 one_reason p after cause.Long w x a b = long_is p after w a ∙ sym (long_is p after x b)
@@ -55,7 +55,7 @@ one_reason p after cause.Pair w x a b =
     let other = pair_is p after x b in
     first.2 ∙ ap why.Pair (one_first (over_program p) (without_stop p after) first.0 other.0 first.1 other.1) ∙ sym other.2
 
--- each is behind those before it
+-- Each is behind those before it.
 abbrev pub Rise : List StopWhy → Type 0
 Rise stops = (m n : ℕ) (s t : StopWhy) → slice_get stops m ≡ Some s → slice_get stops n ≡ Some t → m < n → IsBefore s.after t.after
 
@@ -65,7 +65,7 @@ rest_rises x xs rises m n s t at there less = rises (suc m) (suc n) s t at there
 first_before : (x y : StopWhy) (xs : List StopWhy) → Rise (x ∷ xs) → Contains xs y → IsBefore x.after y.after
 first_before x y xs rises (k, inside, is) = rises 0 (suc k) x y refl (slice_get-get_or xs k y inside ∙ ap Some is) (omega arith)
 
--- two rising lists of the same stops are one
+-- Two rising lists of the same stops are one.
 one_rising : (xs ys : List StopWhy) → Rise xs → Rise ys → ((z : StopWhy) → Contains xs z → Contains ys z) → ((z : StopWhy) → Contains ys z → Contains xs z) → xs ≡ ys
 one_rising [] [] a b f g = refl
 one_rising [] (y ∷ ys) a b f g = absurd (not_in_none y (g y (head_in y ys)))
@@ -89,7 +89,7 @@ one_rising (x ∷ xs) (y ∷ ys) a b f g =
     kept u v us vs rises joins z c (inr d) = d
 
 module _ (p : Program) (at : ℕ → Place) (causes : List (Option Cause)) (rises : (n m : ℕ) → n < m → m < length causes → IsBefore (at n) (at m)) where
-  -- a stop that stands behind an instruction doesn't stand behind a later one
+  -- A stop that stands behind an instruction doesn't stand behind a later one.
   not_behind_later : (x y : StopWhy) (a : IsExplained p at causes x) (b : IsExplained p at causes y) → x.after ≡ y.after → a.n < b.n → ⊥
   not_behind_later x y a b same less = of (cases_lt (a.n + 1) b.n)
     where
@@ -111,7 +111,7 @@ module _ (p : Program) (at : ℕ → Place) (causes : List (Option Cause)) (rise
       of (inr (inl h)) = absurd (not_behind_later x y a b same h)
       of (inr (inr h)) = absurd (not_behind_later y x b a (sym same) h)
 
-  -- two reasons of the stop behind a place are one
+  -- Two reasons of the stop behind a place are one.
   one_explained : (x y : StopWhy) → IsExplained p at causes x → IsExplained p at causes y → x.after ≡ y.after → x ≡ y
   one_explained x y a b same = λ i. record { after = same i; why = reason i }
     where

@@ -28,7 +28,7 @@ pub record NamesAmong (p : Program) (at : ℕ → Place) (causes : List (Option 
   pub only : (s : StopWhy) → Contains stops s → IsPlaceOf p.bundles s.after × (is_stopped p.bundles s.after ≡ true) × IsDone s.after
   pub explained : (s : StopWhy) → Contains stops s → IsExplained p at causes s
 
--- those up to the place
+-- Those up to the place.
 abbrev pub IsUpTo : Place → Place → Type 0
 IsUpTo place q = IsBefore q place ⊎ (q ≡ place)
 
@@ -40,7 +40,7 @@ names_none p at causes = record {
   explained = λ s c. absurd (not_in_none s c);
 }
 
--- where no stop is at the place
+-- Where no stop is at the place.
 names_same : (p : Program) (at : ℕ → Place) (causes : List (Option Cause)) (stops : List StopWhy) (place : Place) → NamesAmong p at causes stops (λ q. IsBefore q place) → is_stopped p.bundles place ≡ false
     → NamesAmong p at causes stops (IsUpTo place)
 names_same p at causes stops place names none = record {
@@ -54,7 +54,7 @@ names_same p at causes stops place names none = record {
     of q is stopped (inl low) = names.has q is stopped low
     of q is stopped (inr e) = absurd (let f : is_stopped p.bundles q ≡ false = ap (is_stopped p.bundles) e ∙ none in cc)
 
--- an element of a list with one more at its end
+-- An element of a list with one more at its end.
 pushed : (stops : List StopWhy) (stop : StopWhy) (n : ℕ) (t : StopWhy) → slice_get (stops ++ stop ∷ []) n ≡ Some t → (slice_get stops n ≡ Some t) ⊎ ((n ≡ length stops) × (t ≡ stop))
 pushed [] stop zero t e = inr (refl, sym (same_Some stop t e))
 pushed [] stop (suc n) t e = absurd cc
@@ -73,7 +73,7 @@ listed (x ∷ stops) (suc n) s e = in_tail_of (listed stops n s e)
     in_tail_of : Contains stops s → Contains (x ∷ stops) s
     in_tail_of c = Contains-append_right (x ∷ []) stops s c
 
--- one more
+-- One more.
 names_push : (p : Program) (at : ℕ → Place) (causes : List (Option Cause)) (stops : List StopWhy) (place : Place) (stop : StopWhy) → NamesAmong p at causes stops (λ q. IsBefore q place) → IsPlaceOf p.bundles place
     → is_stopped p.bundles place ≡ true → stop.after ≡ place → IsExplained p at causes stop → NamesAmong p at causes (stops ++ stop ∷ []) (IsUpTo place)
 names_push p at causes stops place stop names is stopped after explained = record {
@@ -109,7 +109,7 @@ names_push p at causes stops place stop names is stopped after explained = recor
     known s (inl c) = names.explained s c
     known s (inr c) = subst (IsExplained p at causes) (same s c) explained
 
--- the stop behind the place is behind the n-th instruction
+-- The stop behind the place is behind the n-th instruction.
 behind_at : (p : Program) (places : List Place) (causes : List (Option Cause)) (n : ℕ) (place : Place) → AreCaused p places causes → IsLastUpTo places n place → IsPlaceOf p.bundles place → is_stopped p.bundles place ≡ true
     → IsBehind places n place
 behind_at p places causes n place caused last is stopped = record { inside = last.inside; from = of last.from; below = last.below }
@@ -118,7 +118,7 @@ behind_at p places causes n place caused last is stopped = record { inside = las
     of (inl e) = subst (λ (m : ℕ). ¬ IsBefore place (place_in places m)) (sym e) (caused.first place is stopped)
     of (inr h) = h
 
--- whether a stop is there or not
+-- Whether a stop is there or not.
 pub names_at : (p : Program) (places : List Place) (causes : List (Option Cause)) (n : ℕ) (place : Place) (gap : Option Cause) (old new : List StopWhy) → NamesAmong p (place_in places) causes old (λ q. IsBefore q place)
     → AreCaused p places causes → IsLastUpTo places n place → IsPlaceOf p.bundles place → slice_get causes n ≡ Some gap → NamesAt p place gap old new
     → NamesAmong p (place_in places) causes new (IsUpTo place)
@@ -145,7 +145,7 @@ pub record IsFrom (p : Program) (behind place : Place) : Type 0 where
   pub parted : IsAfterStop p behind
   pub low : ¬ IsBefore place behind
 
--- what has to be known to name a stop is known
+-- What has to be known to name a stop is known.
 pub due_at : (p : Program) (places : List Place) (causes : List (Option Cause)) (n : ℕ) (behind place : Place) (gap : Option Cause) → AreCaused p places causes → IsLastUpTo places n place → IsPlaceOf p.bundles place
     → IsFrom p behind place → slice_get causes n ≡ Some gap → IsDue p behind place gap
 due_at p places causes n behind place gap caused last is from at = record {
@@ -216,7 +216,7 @@ names_next p at causes stops place next names follows = record {
     before q (inl h) = before_trans q place next h of_next.after
     before q (inr e) = subst (λ (r : Place). IsBefore r next) (sym e) of_next.after
 
--- where there is no next place all are named
+-- Where there is no next place all are named.
 pub names_all : (p : Program) (at : ℕ → Place) (causes : List (Option Cause)) (stops : List StopWhy) (place : Place) → NamesAmong p at causes stops (IsUpTo place) → next_of p.bundles place ≡ None → NamesStops p at causes stops
 names_all p at causes stops place names last = record {
   rises = names.rises;

@@ -27,7 +27,7 @@ one_on s k before (item ∷ items) last other (pair, right, goes) (too, also, on
     one_on s (packed_next k before item pair) item items last other goes
     (subst (λ (n : Packing). GoesOnTo s n item items other) (sym (same_next s k before item pair too right also)) on)
 
--- the packing of the first n items is one
+-- The packing of the first n items is one.
 pub one_pack : (s : Loose) (items : List Item) (k l : Packing) → IsPackOf s items k → IsPackOf s items l → k ≡ l
 one_pack s [] k l a b = absurd a
 one_pack s (item ∷ items) k l a b = one_on s (begun_with item) item items k l a b
@@ -75,7 +75,7 @@ grown_on s k before (item ∷ items) last (pair, right, goes) =
               let there = more.current (omega arith) in omega arith;
         }
 
--- the packing of the first items and that of more
+-- The packing of the first items and that of more.
 pub front_grown : (s : Loose) (front more : List Item) (k last : Packing) → IsPackOf s front k → IsPackOf s (front ++ more) last → IsGrown k last (length more)
 front_grown s [] more k last a b = absurd a
 front_grown s (item ∷ front) more k last a b =
@@ -83,7 +83,7 @@ front_grown s (item ∷ front) more k last a b =
     subst (λ (m : Packing). IsGrown m last (length more)) (one_on s (begun_with item) item front passed.middle k passed.up a)
     (grown_on s passed.middle passed.item more last passed.rest)
 
--- the first items up to one that begins a bundle past the limit
+-- The first items up to one that begins a bundle past the limit.
 abbrev up_to : (s : Loose) (n : ℕ) → IsFirstPast s n → List Item
 up_to s n past = past.before ++ past.item ∷ []
 
@@ -100,7 +100,7 @@ count_is s n past =
     let number = past.number in
     ap (length {A = Item}) (whole s n past) ∙ (let sum = length-append (up_to s n past) past.after in omega (arith, length_push past.before past.item))
 
--- no later item begins one, since this one has
+-- No later item begins one, since this one has.
 none_later : (s : Loose) (n m : ℕ) → IsFirstPast s n → IsFirstPast s m → n < m → ⊥
 none_later s n m a b less =
     let grown = front_grown s (up_to s n a) more a.packing b.packing a.is (subst (λ (l : List Item). IsPackOf s l b.packing) split b.is) in

@@ -16,7 +16,7 @@ use Rattle.bundling.specs.Chunk.{Chunk}
 use Rattle.bundling.specs.Chunks.{Holds, KeepTogether, IsChunk, AreChunks}
 use Rattle.stop_placer.specs.Packings.{chunk}
 
--- a bundle holds as many items as are wanted of it
+-- A bundle holds as many items as are wanted of it.
 pub holds_length : (ws : List Wanted) (items : List Item) → Holds ws items → length ws ≡ length items
 holds_length [] [] h = refl
 holds_length [] (item ∷ items) h = absurd h
@@ -47,11 +47,11 @@ pub record IsOpen (ws : List Wanted) (items : List Item) (before : Item) : Type 
   pub front : List Item
   pub ends : items ≡ front ++ before ∷ []
 
--- a bundle begins with any item
+-- A bundle begins with any item.
 pub open_begun : (item : Item) → IsOpen (wanted_as item false ∷ []) (item ∷ []) item
 open_begun item = record { holds = (refl, tt); together = tt; laid = one_is_laid_out (wanted_as item false) false; front = []; ends = refl }
 
--- what an item that joins is: nothing parts it from the one before it, which is no call, and there is a layout
+-- What an item that joins is: nothing parts it from the one before it, which is no call, and there is a layout.
 pub record AreJoined (ws : List Wanted) (before item : Item) (gap : Bool) : Type 0 where
   pub breaks : item.breaks ≡ false
   pub call : ¬ IsCall before.insn.op
@@ -66,7 +66,7 @@ joined_is ws before item gap e = of item.breaks (is_call before.insn.op) (is_som
     of false true z _ _ _ e = absurd cc
     of true y z _ _ _ e = absurd cc
 
--- another item joins it
+-- Another item joins it.
 pub open_joined : (ws : List Wanted) (items : List Item) (before item : Item) (gap : Bool) → joins ws before item gap ≡ true → IsOpen ws items before
     → IsOpen (ws ++ wanted_as item gap ∷ []) (items ++ item ∷ []) item
 open_joined ws items before item gap e current =
@@ -88,7 +88,7 @@ laid_with ws true laid = subst (IsSome {T = ℕ × List ℕ}) (sym (end_takes_ne
     of None h = h
     of (Some layout) h = refl
 
--- it is closed, with a stop at its end or none
+-- It is closed, with a stop at its end or none.
 pub open_closed : (ws : List Wanted) (items : List Item) (before : Item) (end : Bool) → IsOpen ws items before → IsChunk (chunk ws end) items
 open_closed ws items before end current = record { holds = current.holds; together = current.together; laid = laid_with ws end current.laid }
 

@@ -25,7 +25,7 @@ use Rattle.stop_placer.proofs.PackFree.{sequence_length, pack_has_no_violation, 
 use Rattle.stop_placer.proofs.PlacesCounted.{places_counted}
 use Rattle.stop_placer.proofs.StopCauses.{stop_has_cause, stop_behind_first}
 
--- no pair is looked for behind the last instruction
+-- No pair is looked for behind the last instruction.
 not_last : (causes : List (Option Cause)) (written : Bool) (n : ℕ) → slice_get (causes ++ end_cause written ∷ []) n ≡ Some (Some Pair) → n < length causes
 not_last [] true zero e = absurd cc
 not_last [] false zero e = absurd cc

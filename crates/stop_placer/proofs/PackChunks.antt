@@ -23,7 +23,7 @@ record HoldsAll (k : Packing) (done : List Item) (before : Item) : Type 0 where
   closed : AreChunks (reverse k.closed) shut
   current : IsOpen k.current held before
 
--- with the current one closed
+-- With the current one closed.
 all_closed : (k : Packing) (done : List Item) (before : Item) (end : Bool) → HoldsAll k done before → AreChunks (reverse (chunk k.current end ∷ k.closed)) done
 all_closed k done before end holds =
     subst (λ (cs : List Chunk). AreChunks cs done) (sym (reverse_more (chunk k.current end) k.closed))
@@ -59,7 +59,7 @@ pack_are_chunks s k is pack few =
 pub pack_is_quiet : (s : Loose) (k : Packing) → IsPack s k → HasNoLongQuiet (all_chunks s k)
 pack_is_quiet s k pack i inside = loud_between k.closed (chunk k.current (ends_written s.items)) i (closed_short s k pack) inside
 
--- a stop at the end has a cause
+-- A stop at the end has a cause.
 end_has_cause : (b : Bool) → is_some (end_cause b) ≡ b
 end_has_cause true = refl
 end_has_cause false = refl

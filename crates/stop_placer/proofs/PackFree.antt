@@ -40,11 +40,11 @@ use Rattle.stop_placer.proofs.BundleLaws.{bundled_is_program, quiet_is_short, bu
 use Rattle.stop_placer.proofs.PackChunks.{pack_are_chunks, pack_is_quiet, pack_causes}
 use Rattle.stop_placer.proofs.Decided.{decided_at, sequence_stop_is, front_agrees}
 
--- the sequence has each of the text's instructions
+-- The sequence has each of the text's instructions.
 pub sequence_length : (s : Loose) → IsLoose s → length (sequence_of s).insns ≡ length s.items
 sequence_length s is = length-targeted (λ n. n) 0 s.items s.targets is.targets
 
--- the bundles of a packing are a program
+-- The bundles of a packing are a program.
 pub pack_is_program : (s : Loose) (k : Packing) → IsLoose s → IsPack s k → length (all_chunks s k) ≤ BUNDLE_LIMIT → IsProgram (program_of s (all_chunks s k))
 pack_is_program s k is pack few =
     let chunks = pack_are_chunks s k is pack few in
@@ -70,7 +70,7 @@ fallen_to sequence has_stop u x =
     }
 
 module _ (s : Loose) (k : Packing) (is : IsLoose s) (pack : IsPack s k) where
-  -- the gap behind the n-th instruction, with another one behind it
+  -- The gap behind the n-th instruction, with another one behind it.
   record IsGap (n : ℕ) : Type 0 where
     cause : Option Cause
     room : n < length k.causes
@@ -89,7 +89,7 @@ module _ (s : Loose) (k : Packing) (is : IsLoose s) (pack : IsPack s k) where
         of_all = get_or_append_left k.causes (end ∷ []) None n room ∙ get_or_from_slice_get k.causes n found.0 None found.1;
       }
 
-  -- a violation at an instruction is one under the causes before its gap, where this has no stop
+  -- A violation at an instruction is one under the causes before its gap, where this has no stop.
   pair_of : (n : ℕ) (has_stop : Place → Bool) (u : Violation) → n ≤ length k.causes → ((place : Place) → place.bundle < n → has_stop place ≡ stopped_by (all_causes s k) place)
       → ((place : Place) → place.bundle ≡ n → has_stop place ≡ false) → ViolatesIn (over_sequence (sequence_of s)) has_stop u → u.second ≡ first_of (n + 1) → IsPairAt s (take n k.causes) (n + 1)
   pair_of n has_stop u room before here x second =
@@ -135,7 +135,7 @@ between_one sequence p at m n x spread inside room one two = of (cases_order m n
     of (inr (inl h)) = absurd (not_from_later sequence p at m n x spread h (omega arith) one.below two.from)
     of (inr (inr h)) = absurd (not_from_later sequence p at n m x spread h (omega arith) two.below one.from)
 
--- the stops but for the one behind a place
+-- The stops but for the one behind a place.
 without_here : (p : Program) (q place : Place) → place ≡ q → without_stop p q place ≡ false
 without_here p q place e = of (is_stopped p.bundles place) (place.bundle == q.bundle) (place.slot == q.slot) refl refl
   where
@@ -145,7 +145,7 @@ without_here p q place e = of (is_stopped p.bundles place) (place.bundle == q.bu
     of true false c x y = let same : place.bundle ≡ q.bundle = ap (λ (k : Place). k.bundle) e in absurd (grind (arith, nat_tests))
     of true true false x y = let same : place.slot ≡ q.slot = ap (λ (k : Place). k.slot) e in absurd (grind (arith, nat_tests))
 
--- at another place there are those of the program
+-- At another place there are those of the program.
 pub without_elsewhere : (p : Program) (q place : Place) → (place ≡ q → ⊥) → without_stop p q place ≡ is_stopped p.bundles place
 without_elsewhere p q place other = of (is_stopped p.bundles place) (place.bundle == q.bundle) (place.slot == q.slot) refl refl
   where
@@ -161,7 +161,7 @@ without_elsewhere p q place other = of (is_stopped p.bundles place) (place.bundl
         slot : place.slot ≡ q.slot
         slot = grind (arith, nat_tests)
 
--- the sequence's stops but for the one behind the n-th instruction
+-- The sequence's stops but for the one behind the n-th instruction.
 abbrev but_for : ℕ → (Place → Bool) → Place → Bool
 but_for n has_stop place = has_stop place && not (place.bundle == n)
 
@@ -201,7 +201,7 @@ stops_without sequence p at has_stop n q spread stops one room between stopped =
     of m (inr other) inside none place there =
         let quiet = stops.unstopped m inside (sym (but_for_elsewhere n has_stop (first_of m) other) ∙ none) place there in rw quiet refl
 
--- a pair stands at a gap between two instructions
+-- A pair stands at a gap between two instructions.
 pair_inside : (s : Loose) (k : Packing) (n : ℕ) → slice_get (all_causes s k) n ≡ Some (Some Pair) → (n < length k.causes) × (slice_get k.causes n ≡ Some (Some Pair))
 pair_inside s k n there = of (cases_lt n (length k.causes))
   where
@@ -218,7 +218,7 @@ pair_inside s k n there = of (cases_lt n (length k.causes))
         let same : length k.causes + 0 ≡ n = omega (arith, slice_get_within (all_causes s k) n (Some Pair) there, length_push k.causes end) in
         absurd (no_pair (ends_written s.items) (sym (slice_get-append_right k.causes (end ∷ []) 0) ∙ ap (slice_get (all_causes s k)) same ∙ there))
 
--- without the stop of a pair there is a violation
+-- Without the stop of a pair there is a violation.
 pub pair_has_violation : (s : Loose) (k : Packing) (n : ℕ) (q : Place) → IsLoose s → IsPack s k → length (all_chunks s k) ≤ BUNDLE_LIMIT
     → slice_get (all_causes s k) n ≡ Some (Some Pair) → IsBetween (program_of s (all_chunks s k)) (place_of (all_chunks s k)) n q
     → is_stopped (program_of s (all_chunks s k)).bundles q ≡ true
@@ -256,7 +256,7 @@ pair_has_violation s k n q is pack few cause between stops =
     agree = front_agrees k.causes (end_cause (ends_written s.items) ∷ []) n (but_for n (sequence_stop cs)) (let less = inside.0 in omega arith)
         (λ place less. but_for_elsewhere n (sequence_stop cs) place (λ e. omega arith) ∙ sequence_stop_is s k place pack) (λ place e. but_for_here n (sequence_stop cs) place e)
 
--- a violation of a program without one of its stops comes behind the stop, where the program has none
+-- A violation of a program without one of its stops comes behind the stop, where the program has none.
 pub violated_behind : (p : Program) (q : Place) (v : Violation) → IsProgram p → HasNoViolation p → ViolatesIn (over_program p) (without_stop p q) v → IsBefore q v.second
 violated_behind p q v is free violates = of (place_cases q v.second)
   where

@@ -74,7 +74,7 @@ module _ (s : Loose) (n : ℕ) (k : Packing) (so : IsPackedSo s n k) where
   length_so : length (so.front ++ so.last ∷ []) ≡ n
   length_so = length-append so.front (so.last ∷ []) ∙ so.number
 
-  -- the last of them
+  -- The last of them.
   pub last_so : (before : Item) (m : ℕ) → m + 1 ≡ n → before ≡ get_or s.items m before → before ≡ so.last
   last_so before m e is =
       let at : m ≡ length so.front = omega (arith, so.number, e) in
@@ -115,7 +115,7 @@ module _ (s : Loose) (n : ℕ) (k : Packing) (so : IsPackedSo s n k) where
         gaps = omega (arith, ap (length {A = Option Cause}) one.causes, length-append k.causes (one.gap ∷ []), so.gaps);
       }
 
-  -- where with it one bundle too many is closed
+  -- Where with it one bundle too many is closed.
   pub past_so : (before item : Item) (pair : Bool) → before ≡ so.last → HasNext item → IsRight s k before pair → length k.closed < BUNDLE_LIMIT → length (packed_next k before item pair).closed ≡ BUNDLE_LIMIT → IsFirstPast s n
   past_so before item pair e next right room full =
       let one = next_takes_one k before item pair in

@@ -68,7 +68,7 @@ placed_once one loose text k m a b =
     let same = one_pack a.loose a.loose.items a.packing b.packing a.pack other.pack in
     one_packed a.loose a.packing k m (loose text a.loose a.reads) (packed_as text k a) (subst (λ (q : Packing). IsPackedAs a.loose q m) (sym same) other)
 
--- the line of the first item that begins a bundle past the limit
+-- The line of the first item that begins a bundle past the limit.
 same_line : (s : Loose) (n m x y : ℕ) → n ≡ m → line_of_item s n ≡ Some x → line_of_item s m ≡ Some y → x ≡ y
 same_line s n m x y same a b = same_Some x y (sym a ∙ ap (line_of_item s) same ∙ b)
 
@@ -111,7 +111,7 @@ module _ (text : List ℕ) (k : Packed) (placed : IsPlaced text k) (is : IsLoose
   count : length (places_of cs) ≡ length placed.loose.items
   count = length-places layouts cs placed.loose.items 0 chunks.chunks
 
-  -- the n-th place is one of them
+  -- The n-th place is one of them.
   listed : (place : Place) (n : ℕ) → n < length (sequence_of placed.loose).insns → place ≡ place_of cs n → Contains (places_of cs) place
   unfolding place_of
   listed place n inside e =

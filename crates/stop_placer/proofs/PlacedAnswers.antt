@@ -29,11 +29,11 @@ answers_placing_fault one none text (Ok m) found fault e has = absurd (none text
 answers_placing_fault one none text (Err f) found (inl memory) e has = inr (ap Err memory)
 answers_placing_fault one none text (Err f) found (inr other) e has = inl (ap Err (one text f e other has))
 
--- with its current bundle closed a packing has at most one bundle more
+-- With its current bundle closed a packing has at most one bundle more.
 pub whole_few : (k : Packing) (end : Bool) → length k.closed < BUNDLE_LIMIT → length (chunks_of k end) ≤ BUNDLE_LIMIT
 whole_few k end room = omega (arith, room, length-reverse (chunk k.current end ∷ k.closed))
 
--- the names of the stops, by the bundles that the places are of
+-- The names of the stops, by the bundles that the places are of.
 pub names_by : (p : Program) (places : List Place) (cs : List Chunk) (causes gaps : List (Option Cause)) (stops : List StopWhy) → places ≡ places_of cs → causes ≡ gaps → NamesStops p (place_in places) causes stops → NamesStops p (place_of cs) gaps stops
 unfolding place_of
 names_by p places cs causes gaps stops e f names =

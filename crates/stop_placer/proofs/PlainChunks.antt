@@ -14,7 +14,7 @@ use Rattle.bundling.proofs.Lists.{element}
 use Rattle.stop_placer.specs.Packings.{chunk}
 use Rattle.stop_placer.proofs.OpenChunks.{IsOpen, open_begun, open_joined, open_closed, chunk_first}
 
--- a bundle with a stop at its end
+-- A bundle with a stop at its end.
 abbrev stopped_chunk : List Wanted → Chunk
 stopped_chunk ws = chunk ws true
 

@@ -44,12 +44,12 @@ none_long_from j [] none inside = absurd (omega arith)
 none_long_from zero (c ∷ cs) (e, none) inside = e
 none_long_from (suc j) (c ∷ cs) (e, none) inside = none_long_from j cs none (omega arith)
 
--- a stop at the end of the first of them is one
+-- A stop at the end of the first of them is one.
 stopped_first : (n : ℕ) (c : Chunk) (cs : List Chunk) → 1 ≤ n → c.end ≡ true → are_quiet n (c ∷ cs) ≡ false
 stopped_first zero c cs some e = absurd (omega arith)
 stopped_first (suc n) c cs some e = rw e refl
 
--- with the reason for a stop, there is none too long
+-- With the reason for a stop, there is none too long.
 closed_by : (k : Packing) (cause : Option Cause) → are_quiet QUIET_LIMIT (chunk k.current (is_some (or_long cause (is_long k))) ∷ k.closed) ≡ false
 closed_by k (Some cause) = stopped_first QUIET_LIMIT (chunk k.current true) k.closed (omega arith) refl
 closed_by k None = of (is_long k) refl
@@ -70,7 +70,7 @@ short_kept = record {
 pub closed_short : (s : Loose) (k : Packing) → IsPack s k → NoneLong k.closed
 closed_short s k pack = (kept_of s ClosedAreShort (kept_each s ClosedAreShort short_kept) (λ item. tt) s.items k pack).1
 
--- in the order of the text
+-- In the order of the text.
 slice_get-reverse : {X : Type 0} (xs : List X) (i j : ℕ) (x : X) → slice_get xs j ≡ Some x → i + j + 1 ≡ length xs → slice_get (reverse xs) i ≡ Some x
 slice_get-reverse xs i j x there sum =
     let less = slice_get_within xs j x there in
@@ -83,7 +83,7 @@ at_reversed closed last i j c there sum =
     ∙ slice_get-append_left (reverse closed) (last ∷ []) i (omega (arith, length-reverse closed))
     ∙ slice_get-reverse closed i j c there sum
 
--- the numbers of bundles from the one on to the other
+-- The numbers of bundles from the one on to the other.
 record IsLoudIn (cs : List Chunk) (from count : ℕ) : Type 0 where
   number : ℕ
   above : from ≤ number

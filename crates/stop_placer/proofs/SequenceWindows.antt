@@ -19,13 +19,13 @@ use Rattle.sequence_laws.proofs.Rows.{sequence_next_is}
 use Rattle.stop_placer.specs.declared.packing.Cause.{Cause}
 use Rattle.stop_placer.specs.Packs.{stopped_by}
 
--- a slot that is described is under way with its accesses
+-- A slot that is described is under way with its accesses.
 pub described_under_way : (g : Graph) (has_stop : Place → Bool) (es : List EarlierSlot) (j : Place) (s : Slot) (seconds : List Access) → Describes g has_stop j s → seconds ≡ accesses_of s.qp s.action
     → IsWindow g has_stop es j → HasWindow g has_stop es j s seconds
 described_under_way g has_stop es j s seconds slot accesses win =
     record { slot = slot; accesses = accesses ∙ sym (slot_accesses g has_stop j s slot); window = win }
 
--- the n-th instruction of a sequence stands there
+-- The n-th instruction of a sequence stands there.
 pub sequence_here : (insns : List Insn) (n : ℕ) (i : Insn) → n < length insns → i ≡ get_or insns n i → sequence_insn insns (first_of n) ≡ Some i
 unfolding sequence_insn
 sequence_here insns n i inside is = slice_get_read insns (length insns) n i refl inside is
@@ -37,18 +37,18 @@ sequence_under_way sequence insns has_stop es n i s seconds e inside is unstoppe
     let here = subst (λ (l : List Insn). sequence_insn l (first_of n) ≡ Some i) e (sequence_here insns n i inside is) in
     described_under_way (over_sequence sequence) has_stop es (first_of n) s seconds (describes (over_sequence sequence) has_stop (first_of n) here unstopped) accesses win
 
--- what is behind the end is read from nothing
+-- What is behind the end is read from nothing.
 default_last : {A : Type 0} (xs : List A) (n : ℕ) (d : A) → get_or (xs ++ d ∷ []) n d ≡ get_or xs n d
 default_last [] zero d = refl
 default_last [] (suc n) d = refl
 default_last (x ∷ xs) zero d = refl
 default_last (x ∷ xs) (suc n) d = default_last xs n d
 
--- a gap without a reason changes no stop
+-- A gap without a reason changes no stop.
 same_stops : (causes : List (Option Cause)) → stopped_by causes ≡ stopped_by (causes ++ None ∷ [])
 same_stops causes = λ i place. is_some (sym (default_last causes place.bundle None) i)
 
--- no stop follows an instruction whose gap isn't there yet
+-- No stop follows an instruction whose gap isn't there yet.
 pub open_gap : (causes : List (Option Cause)) (n : ℕ) → length causes ≤ n → stopped_by causes (first_of n) ≡ false
 open_gap causes n few = ap (λ (c : Option Cause). is_some c) (past causes n few)
   where
@@ -77,7 +77,7 @@ window_with_gap sequence causes cause n es r e inside win is = of cause refl
         subst (λ (b : Bool). IsWindow (over_sequence sequence) (stopped_by (causes ++ cause ∷ [])) (cond b [] es) (first_of (n + 1))) (sym high)
         (parted_window (over_sequence sequence) (stopped_by (causes ++ cause ∷ [])) (first_of n) (first_of (n + 1)) (sequence_place sequence.insns n (omega (arith, inside))) (sequence_next_is sequence.insns n inside) (λ edge. sym is ∙ high))
 
--- the same by the number of the next instruction
+-- The same by the number of the next instruction.
 pub window_at_next : (sequence : InsnSequence) (causes : List (Option Cause)) (cause : Option Cause) (m n : ℕ) (es : List EarlierSlot) (r : Bool) → m + 1 ≡ n → length causes ≡ m → n < length sequence.insns
     → IsWindow (over_sequence sequence) (stopped_by causes) es (first_of n) → r ≡ stopped_by (causes ++ cause ∷ []) (first_of m)
     → IsWindow (over_sequence sequence) (stopped_by (causes ++ cause ∷ [])) (cond r [] es) (first_of n)

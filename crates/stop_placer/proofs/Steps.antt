@@ -10,7 +10,7 @@ use Rattle.stop_placer.specs.declared.packing.Cause.{Cause}
 use Rattle.stop_placer.specs.Packings.{Packing, chunk, begun_with, first_cause, are_quiet, or_long, joined, begun, by_joining, packed_next}
 use Rattle.stop_placer.specs.Packs.{IsPairAt, GoesOnTo, IsPackOf}
 
--- whether the latest bundles, with the current one, are too many without a stop
+-- Whether the latest bundles, with the current one, are too many without a stop.
 abbrev pub is_long : Packing → Bool
 is_long k = are_quiet QUIET_LIMIT (chunk k.current false ∷ k.closed)
 
@@ -18,7 +18,7 @@ is_long k = are_quiet QUIET_LIMIT (chunk k.current false ∷ k.closed)
 abbrev pub IsRight : Loose → Packing → Item → Bool → Type 0
 IsRight s k before pair = before.written ≡ false → Decides pair (IsPairAt s k.causes (length k.causes + 1))
 
--- what is kept by one item more, of which `Good` speaks with the items so far and the last of them
+-- What is kept by one item more, of which `Good` speaks with the items so far and the last of them.
 abbrev pub IsKept : Loose → (Packing → List Item → Item → Type 0) → Type 0
 IsKept s Good =
     (k : Packing) (done : List Item) (before item : Item) (pair : Bool) → IsRight s k before pair → Good k done before
@@ -32,7 +32,7 @@ kept_on s Good kept k done before (item ∷ items) last good (pair, right, goes)
     let rest = kept_on s Good kept (packed_next k before item pair) (done ++ item ∷ []) item items last (kept k done before item pair right good) goes in
     (rest.0, subst (λ (xs : List Item). Good last xs rest.0) (append_assoc done (item ∷ []) items) rest.1)
 
--- what holds of the first item and is kept holds of the packing
+-- What holds of the first item and is kept holds of the packing.
 pub kept_of : (s : Loose) (Good : Packing → List Item → Item → Type 0) → IsKept s Good → ((item : Item) → Good (begun_with item) (item ∷ []) item)
     → (items : List Item) (last : Packing) → IsPackOf s items last → (end : Item) × Good last items end
 kept_of s Good kept first [] last pack = absurd pack

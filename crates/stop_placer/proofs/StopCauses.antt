@@ -19,7 +19,7 @@ use Rattle.stop_placer.proofs.PackChunks.{pack_are_chunks, pack_causes}
 use Rattle.stop_placer.proofs.Decided.{sequence_stop_is}
 use Rattle.stop_placer.proofs.PackFree.{sequence_length}
 
--- from the n-th instruction on, and before the next one, where there is one
+-- From the n-th instruction on, and before the next one, where there is one.
 pub record StandsBehind (s : Loose) (k : Packing) (n : ℕ) (place : Place) : Type 0 where
   pub inside : n < length s.items
   pub from : ¬ IsBefore place (place_of (all_chunks s k) n)
@@ -33,7 +33,7 @@ stop_has_cause s k n place is pack few behind there stops = of (sequence_stop cs
     cs : List Chunk
     cs = all_chunks s k
 
-    -- a stop that isn't wanted isn't there
+    -- A stop that isn't wanted isn't there.
     unstopped : sequence_stop cs (first_of n) ≡ false → (n + 1 < length s.items) ⊎ (length s.items ≤ n + 1) → is_stopped (program_of s cs).bundles place ≡ false
     unstopped quiet (inl inside) =
         (bundled_has_stops s cs is (pack_are_chunks s k is pack few)).unstopped n (subst (λ (m : ℕ). n + 1 < m) (sym (sequence_length s is)) inside) quiet place
@@ -49,7 +49,7 @@ stop_has_cause s k n place is pack few behind there stops = of (sequence_stop cs
     of true e = found (get_or (all_causes s k) n None) refl (sym (sequence_stop_is s k (first_of n) pack) ∙ e)
     of false e = let quiet = unstopped e (cases_lt (n + 1) (length s.items)) in absurd cc
 
--- no stop stands before the first instruction
+-- No stop stands before the first instruction.
 pub stop_behind_first : (s : Loose) (k : Packing) (place : Place) → IsLoose s → IsPack s k → length (all_chunks s k) ≤ BUNDLE_LIMIT
     → IsPlaceOf (program_of s (all_chunks s k)).bundles place → is_stopped (program_of s (all_chunks s k)).bundles place ≡ true → ¬ IsBefore place (place_of (all_chunks s k) 0)
 stop_behind_first s k place is pack few there stops less =

@@ -15,7 +15,7 @@ use Rattle.stop_placer.specs.declared.packing.Cause.TheVariants.{Pair}
 use Rattle.stop_placer.specs.declared.packed.StopWhy.{StopWhy}
 use Rattle.stop_placer.specs.Placing.{without_stop, IsReason}
 
--- the slot without its stop
+-- The slot without its stop.
 abbrev pub unstopped : Slot → Slot
 unstopped slot =
     record { action = slot.action; qp = slot.qp; stop = false; falls = slot.falls; next = slot.next; target = slot.target }
@@ -35,7 +35,7 @@ pub record IsCut (p : Program) (behind out : Place) : Type 0 where
   pub parted : IsAfterStop p behind
   pub low : ¬ IsBefore out behind
 
--- the place of the n-th instruction
+-- The place of the n-th instruction.
 abbrev pub place_in : List Place → ℕ → Place
 place_in places n = slice_index_or places n (first_of 0)
 

@@ -30,7 +30,7 @@ NoFaultWherePlaced = (text : List ℕ) (k : Packed) (e : TextError) → IsPlaced
 abbrev pub PlacedHasNoViolation : Type 0
 PlacedHasNoViolation = (text : List ℕ) (k : Packed) → IsPlaced text k → IsProgram k.program × HasNoViolation k.program
 
--- the place of the n-th instruction
+-- The place of the n-th instruction.
 abbrev pub nth_place : Packed → ℕ → Place
 nth_place k n = slice_index_or k.places n (first_of 0)
 

@@ -20,7 +20,7 @@ pub record Packing : Type 0 where
 abbrev pub chunk : List Wanted → Bool → Chunk
 chunk wanted end = record { wanted = wanted; end = end }
 
--- the first instruction, in the first bundle
+-- The first instruction, in the first bundle.
 abbrev pub begun_with : Item → Packing
 begun_with item = record { closed = []; current = wanted_as item false ∷ []; causes = [] }
 
@@ -30,19 +30,19 @@ first_cause true pair = Some Written
 first_cause false true = Some Pair
 first_cause false false = None
 
--- there are n bundles or more, and the latest n want no stop
+-- There are n bundles or more, and the latest n want no stop.
 abbrev pub are_quiet : ℕ → List Chunk → Bool
 are_quiet zero chunks = true
 are_quiet (suc n) [] = false
 are_quiet (suc n) (c ∷ cs) = is_quiet c && are_quiet n cs
 
--- where there is no other reason, a stop comes behind as many bundles without one as may be
+-- Where there is no other reason, a stop comes behind as many bundles without one as may be.
 abbrev pub or_long : Option Cause → Bool → Option Cause
 or_long (Some cause) long = Some cause
 or_long None true = Some Long
 or_long None false = None
 
--- the next instruction in the current bundle
+-- The next instruction in the current bundle.
 abbrev pub joined : Packing → Item → Option Cause → Packing
 joined k item cause = record {
   closed = k.closed;
@@ -50,7 +50,7 @@ joined k item cause = record {
   causes = k.causes ++ cause ∷ [];
 }
 
--- the current bundle closed, with the stop at its end, and the next instruction as the first of another
+-- The current bundle closed, with the stop at its end, and the next instruction as the first of another.
 abbrev pub begun : Packing → Item → Option Cause → Packing
 begun k item cause = record {
   closed = chunk k.current (is_some cause) ∷ k.closed;
@@ -67,6 +67,6 @@ abbrev pub packed_next : Packing → (before item : Item) → (pair : Bool) → 
 packed_next k before item pair =
     let cause = first_cause before.written pair in by_joining (joins k.current before item (is_some cause)) k item cause
 
--- the bundles in order, the current one closed, with a stop at its end or none
+-- The bundles in order, the current one closed, with a stop at its end or none.
 abbrev pub chunks_of : Packing → Bool → List Chunk
 chunks_of k end = reverse (chunk k.current end ∷ k.closed)

@@ -15,7 +15,7 @@ use Rattle.stop_placer.specs.declared.packing.Cause.{Cause}
 use Rattle.stop_placer.specs.declared.packing.Cause.TheVariants.{Written}
 use Rattle.stop_placer.specs.Packings.{Packing, begun_with, packed_next, chunks_of}
 
--- the stops so far, over the sequence: behind an instruction at whose gap there is a reason
+-- The stops so far, over the sequence: behind an instruction at whose gap there is a reason.
 abbrev pub stopped_by : List (Option Cause) → Place → Bool
 stopped_by causes place = is_some (slice_index_or causes place.bundle None)
 
@@ -39,7 +39,7 @@ IsPackOf s (item ∷ items) k = GoesOnTo s (begun_with item) item items k
 abbrev pub IsPack : Loose → Packing → Type 0
 IsPack s k = IsPackOf s s.items k
 
--- a `;;` stands after the last item
+-- A `;;` stands after the last item.
 abbrev pub ends_written : List Item → Bool
 ends_written [] = false
 ends_written (item ∷ []) = item.written
@@ -49,11 +49,11 @@ abbrev pub end_cause : Bool → Option Cause
 end_cause true = Some Written
 end_cause false = None
 
--- of each item, why a stop stands behind it, where one does
+-- Of each item, why a stop stands behind it, where one does.
 abbrev pub all_causes : Loose → Packing → List (Option Cause)
 all_causes s k = k.causes ++ end_cause (ends_written s.items) ∷ []
 
--- the bundles of the whole text
+-- The bundles of the whole text.
 abbrev pub all_chunks : Loose → Packing → List Chunk
 all_chunks s k = chunks_of k (ends_written s.items)
 

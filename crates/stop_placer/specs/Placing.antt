@@ -24,7 +24,7 @@ use Rattle.stop_placer.specs.Packed.{Packed}
 use Rattle.stop_placer.specs.Packings.{Packing}
 use Rattle.stop_placer.specs.Packs.{IsPack, IsFirstPast, all_causes, all_chunks}
 
--- the stops of a program but for the one behind a place
+-- The stops of a program but for the one behind a place.
 abbrev pub without_stop : Program → Place → Place → Bool
 without_stop p out place =
     is_stopped p.bundles place && not ((place.bundle == out.bundle) && (place.slot == out.slot))
@@ -65,7 +65,7 @@ pub record IsPlaced (text : List ℕ) (k : Packed) : Type 0 where
   pub places : k.places ≡ places_of (all_chunks loose packing)
   pub stops : NamesStops k.program (place_of (all_chunks loose packing)) (all_causes loose packing) k.stops
 
--- the line of the n-th item
+-- The line of the n-th item.
 abbrev pub line_of_item : Loose → ℕ → Option ℕ
 line_of_item s n = option_map (λ (i : Item). i.line) (slice_get s.items n)
 

@@ -27,7 +27,7 @@ AreClosed bundles = (n : ℕ) → IfSome (slice_get bundles n) IsClosed
 closed_at : (bundles : List Bundle) → AreClosed bundles → (n : ℕ) (b : Bundle) → slice_get bundles n ≡ Some b → IsClosed b
 closed_at bundles closed n b e = let P : Option Bundle → Type 0 = λ o. IfSome o IsClosed in subst P e (closed n)
 
--- a run ends at each slot 2
+-- A run ends at each slot 2.
 ends_at_2 : (bundles : List Bundle) → AreClosed bundles → (place : Place) → IsPlaceOf bundles place → 2 ≤ place.slot → EndsRun bundles place
 ends_at_2 bundles closed place is h =
     let l = lies_in bundles place is in
@@ -49,7 +49,7 @@ same_bundle bundles closed place next is on follows = of (cases_lt place.slot 2)
         let q : Place = record { bundle = place.bundle; slot = place.slot + 1 } in
         absurd (follows.first q (is_place bundles q l.bundle l.is (omega arith)) (inr (refl, omega arith)) (inl later))
 
--- at most two slots of a run stand before another
+-- At most two slots of a run stand before another.
 few_before : (bundles : List Bundle) → AreClosed bundles → (slots : List Place) (place : Place) → StandBefore bundles slots place → length slots ≤ place.slot
 few_before bundles closed [] place stand = omega arith
 few_before bundles closed (p ∷ ps) place stand =
@@ -59,7 +59,7 @@ within_run : (bundles : List Bundle) → AreClosed bundles → EachPlace bundles
 within_run bundles closed place is slots stand =
     omega (arith, few_before bundles closed slots place stand, slot_small bundles place is)
 
--- no place has a target
+-- No place has a target.
 none_inside : (bundles : List Bundle) → AreClosed bundles → EachPlace bundles (IsTargetInside bundles)
 unfolding insn_at
 none_inside bundles closed place is = of_bundle (slice_get bundles place.bundle) (closed place.bundle)

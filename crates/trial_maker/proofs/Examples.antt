@@ -9,7 +9,7 @@ use Rattle.ia_insn.specs.declared.choices.Unit.TheVariants.{M, I}
 use Rattle.trial_maker.specs.Draws.{state_before, draws_of}
 use Rattle.trial_maker.specs.Trials.{always, mii, first_bundles, trial_program}
 
--- the draws of seed 0
+-- The draws of seed 0.
 first_draws : draws_of 0 0 ≡ record { first = 167951807; second = 218396424; third = 1299921937 }
 unfolding state_before
 first_draws = refl

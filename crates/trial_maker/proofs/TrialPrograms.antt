@@ -15,7 +15,7 @@ use Rattle.trial_maker.specs.Trials.{mii, bundle_of, last_bundle, first_bundles,
 use Rattle.trial_maker.proofs.Fitting.{sets_fit, changes_fit, last_fits}
 use Rattle.trial_maker.proofs.Closed.{IsClosed, AreClosed, closed_program}
 
--- a bundle of M, I and I with a stop at its end is closed, if its instructions fit and have no target
+-- A bundle of M, I and I with a stop at its end is closed, if its instructions fit and have no target.
 mii_closed : (a b c : Insn) → IsBundle (mii a b c) → displacement a.op ≡ None → displacement b.op ≡ None → displacement c.op ≡ None → IsClosed (mii a b c)
 mii_closed a b c fit free_a free_b free_c =
     record { fit = fit; three = refl; stop = search rules; free = λ slot. grind (arith, nat_tests) }
@@ -31,14 +31,14 @@ bundle_closed number draws =
 last_closed : IsClosed last_bundle
 last_closed = mii_closed _ _ _ last_fits refl refl refl
 
--- closed bundles of numbers, and one more
+-- Closed bundles of numbers, and one more.
 all_closed : (f : ℕ → Bundle) → ((n : ℕ) → IsClosed (f n)) → (last : Bundle) → IsClosed last → (from count : ℕ) → AreClosed (map f (range_with_len from count) ++ last ∷ [])
 all_closed f each last closed from zero zero = closed
 all_closed f each last closed from zero (suc n) = tt
 all_closed f each last closed from (suc count) zero = each from
 all_closed f each last closed from (suc count) (suc n) = all_closed f each last closed (from + 1) count n
 
--- one bundle more, and the state before the next
+-- One bundle more, and the state before the next.
 pub one_state_more : (seed number : ℕ) → state_before seed (number + 1) ≡ third_state (state_before seed number)
 unfolding state_before
 one_state_more seed number = rw add-one refl

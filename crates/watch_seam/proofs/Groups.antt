@@ -8,7 +8,7 @@ use Rattle.ia_program.specs.declared.ending.GroupEvent.{GroupEvent}
 use Rattle.watch_seam.specs.Watchers.{WatchState, after, is_full}
 use Rattle.watch_seam.specs.Watching.{AwaitsGroups, Numbered, numbered, numbered_report, reports_after, left_after, reports, after_all, staying, IsAmidGroup, IsCutShort}
 
--- what the watchers have seen, without their numbers
+-- What the watchers have seen, without their numbers.
 abbrev states : List Numbered → List WatchState
 states ws = map (λ w. w.1) ws
 
@@ -18,12 +18,12 @@ states_of_zip [] (w ∷ ws) same = cc
 states_of_zip (n ∷ ns) [] same = cc
 states_of_zip (n ∷ ns) (w ∷ ws) same = ap (λ xs. w ∷ xs) (states_of_zip ns ws (omega (arith, same)))
 
--- from a number on
+-- From a number on.
 zip_is_numbered : (n : ℕ) (ws : List WatchState) → zip (range_with_len n (length ws)) ws ≡ enumerate_from n ws
 zip_is_numbered n [] = refl
 zip_is_numbered n (w ∷ ws) = ap (λ xs. (n, w) ∷ xs) (zip_is_numbered (n + 1) ws)
 
--- a watcher that is full stays full
+-- A watcher that is full stays full.
 stays_full : (events : List GroupEvent) (w : WatchState) → is_full w ≡ true → is_full (after_all events w) ≡ true
 stays_full [] w full = full
 stays_full (e ∷ events) w full = stays_full events (after w e) (grind (arith, full))
@@ -115,7 +115,7 @@ at_beginning seen all text numbers list room none from_0 =
     numbers_are : zip (range_with_len 0 (length list)) (map seen list) ≡ numbered (map seen list)
     numbers_are = ap (λ n. zip (range_with_len 0 n) (map seen list)) (sym (length-map list seen)) ∙ zip_is_numbered 0 (map seen list)
 
--- what those that are left have seen
+-- What those that are left have seen.
 left_are : {B : Type 0} (seen : B → WatchState) (e : GroupEvent) (ws : List Numbered) (numbers : List ℕ) (list : List B) → length numbers ≡ length list → zip numbers (map seen list) ≡ left_after e ws
     → map seen list ≡ states (left_after e ws)
 left_are seen e ws numbers list as_many left = sym (states_of_zip numbers (map seen list) (as_many ∙ sym (length-map list seen))) ∙ ap states left
@@ -124,7 +124,7 @@ left_are seen e ws numbers list as_many left = sym (states_of_zip numbers (map s
 pub still_room : {B : Type 0} (seen : B → WatchState) (e : GroupEvent) (ws : List Numbered) (numbers : List ℕ) (list : List B) → length numbers ≡ length list → zip numbers (map seen list) ≡ left_after e ws → All AwaitsGroups (map seen list)
 still_room seen e ws numbers list as_many left = subst (All AwaitsGroups) (sym (left_are seen e ws numbers list as_many left)) (left_has_room e ws)
 
--- one group further
+-- One group further.
 pub one_further : {B : Type 0} (seen : B → WatchState) (all : List GroupEvent) (old : List WatchState) (e : GroupEvent) (events : List GroupEvent) (text numbers : List ℕ) (list : List B) (text_1 numbers_1 : List ℕ) (list_1 : List B)
     → IsWatched seen all old (e ∷ events) text numbers list → length numbers_1 ≡ length list_1 → text_1 ≡ text ++ reports_after e (zip numbers (map seen list)) → zip numbers_1 (map seen list_1) ≡ left_after e (zip numbers (map seen list))
     → IsWatched seen all old events text_1 numbers_1 list_1
@@ -144,17 +144,17 @@ one_further seen all old e events text numbers list text_1 numbers_1 list_1 w as
       );
     }
 
--- where the group couldn't be shown to all
+-- Where the group couldn't be shown to all.
 pub cut_amid : {B : Type 0} (seen : B → WatchState) (all : List GroupEvent) (old : List WatchState) (e : GroupEvent) (events : List GroupEvent) (text numbers : List ℕ) (list : List B) (now : List WatchState)
     → IsWatched seen all old (e ∷ events) text numbers list → IsAmidGroup (e ∷ []) 0 (map seen list) now → IsCutShort all old now
 cut_amid seen all old e events text numbers list now w a = w.cut now (0, amid_first e events (map seen list) now a)
 
--- where it was given up between two groups
+-- Where it was given up between two groups.
 pub cut_between : {B : Type 0} (seen : B → WatchState) (all : List GroupEvent) (old : List WatchState) (events : List GroupEvent) (text numbers : List ℕ) (list : List B)
     → IsWatched seen all old events text numbers list → IsCutShort all old (map seen list)
 cut_between seen all old events text numbers list w = w.cut (map seen list) (unchanged events (map seen list))
 
--- where no group is to come
+-- Where no group is to come.
 pub at_last : {B : Type 0} (seen : B → WatchState) (all : List GroupEvent) (old : List WatchState) (text numbers : List ℕ) (list : List B)
     → IsWatched seen all old [] text numbers list → (text ++ flat_map numbered_report (zip numbers (map seen list)) ≡ reports all (numbered old)) × (map seen list ≡ staying all old)
 at_last seen all old text numbers list w = (w.reported, sym (all_stay (map seen list) w.room) ∙ w.stay)
@@ -163,7 +163,7 @@ take_more : {A : Type 0} (xs : List A) → take (suc (length xs)) xs ≡ xs
 take_more [] = refl
 take_more (x ∷ xs) = ap (λ ys. x ∷ ys) (take_more xs)
 
--- where it was given up after all groups
+-- Where it was given up after all groups.
 amid_last : (events : List GroupEvent) (ws : List WatchState) → IsAmidGroup events (length events) ws (staying events ws)
 amid_last events [] = refl
 amid_last events (w ∷ ws) =

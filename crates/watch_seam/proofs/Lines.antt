@@ -12,7 +12,7 @@ joined : (a b : List ℕ) → line_count (a ++ b) ≡ line_count a + line_count 
 unfolding line_count
 joined a b = sum_by-append (λ (byte : ℕ). cond (byte == 10) 1 0) a b
 
--- a byte that is no line feed adds none
+-- A byte that is no line feed adds none.
 within : (byte : ℕ) (text : List ℕ) → byte == 10 ≡ false → line_count (byte ∷ text) ≡ line_count text
 unfolding line_count
 within byte text plain = rw plain

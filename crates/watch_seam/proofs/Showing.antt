@@ -21,7 +21,7 @@ pub record IsShownTo {B : Type 0} (seen : B → WatchState) (e : GroupEvent) (te
   pub stay : zip numbers_before (map seen before) ++ left_after e (zip numbers_left (map seen left)) ≡ left_after e (zip numbers_0 (map seen list_0))
   pub amid : (now : List WatchState) → IsAmidGroup (e ∷ []) 0 (map seen left) now → IsAmidGroup (e ∷ []) 0 (map seen list_0) (map seen before ++ now)
 
--- the same of the list and its numbers, whose parts meet at a place
+-- The same of the list and its numbers, whose parts meet at a place.
 pub record IsShown {B : Type 0} (seen : B → WatchState) (e : GroupEvent) (text_0 numbers_0 : List ℕ) (list_0 : List B)
     (text numbers : List ℕ) (list : List B) (at : ℕ) : Type 0 where
   pub numbers_before : List ℕ
@@ -47,7 +47,7 @@ at_first seen e text numbers list as_many room =
       shown = record { as_many_before = refl; as_many = as_many; room = room; reported = refl; stay = refl; amid = λ now a. a };
     }
 
--- a watcher that stays isn't full, and one that is full is
+-- A watcher that stays isn't full, and one that is full is.
 stays_is : (w : WatchState) → keep_of w ≡ Stay → is_full w ≡ false
 stays_is w = elim (is_full w) as (λ t. (if t then Full else Stay) ≡ Stay → t ≡ false) [ true ↦ (λ e. cc) | false ↦ (λ e. refl) ]
 
@@ -269,7 +269,7 @@ at_end seen e text_0 numbers_0 list_0 text numbers list at s over =
     subst (λ ws. zip s.numbers_before (map seen s.before) ++ left_after e ws ≡ left_after e (zip numbers_0 (map seen list_0))) none s.shown.stay in
     (sym (append-nil text) ∙ reported, rw (all, all_numbers) (sym (append-nil (zip s.numbers_before (map seen s.before))) ∙ stay))
 
--- what holds anyhow holds where a call failed
+-- What holds anyhow holds where a call failed.
 pub if_err : {X E : Type 0} {P : Type 0} (r : Result X E) → P → OnErr r P
 if_err (Ok x) p = tt
 if_err (Err e) p = p

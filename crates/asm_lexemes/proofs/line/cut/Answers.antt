@@ -5,7 +5,7 @@ use Rattle.asm_lexemes.proofs.Cutting.{turn_rest}
 use Rattle.asm_lexemes.proofs.Plain.{plain_turn}
 use Rattle.asm_lexemes.proofs.line.cut.Goals as goal
 
--- a list with one more at its end
+-- A list with one more at its end.
 grown : (xs ys : List Lexeme) (w : Lexeme) → ys ≡ xs ++ w ∷ [] → length ys ≡ length xs + 1
 grown xs ys w e = ap length e ∙ length-append xs (w ∷ [])
 

@@ -9,11 +9,11 @@ use Rattle.asm_printing.specs.SlotTexts.{predicate_text, mnemonic_text, spaced, 
 use Rattle.asm_printing.proofs.Rooms.{items_are_few}
 use Rattle.asm_printing.proofs.printing.push_syntax.Goals as goal
 
--- a text behind one that was appended
+-- A text behind one that was appended.
 further : (old front b one two : List ℕ) → one ≡ old ++ front → two ≡ one ++ b → two ≡ old ++ (front ++ b)
 further old front b one two e f = f ∙ ap (λ xs. xs ++ b) e ∙ append_assoc old front b
 
--- four texts, one after the other
+-- Four texts, one after the other.
 appended : (old a b c d one two three new : List ℕ) → one ≡ old ++ a → two ≡ one ++ b → three ≡ two ++ c → new ≡ three ++ d → new ≡ old ++ (a ++ b ++ c ++ d)
 appended old a b c d one two three new f g h i =
     further old (a ++ b ++ c) d three new (further old (a ++ b) c two three (further old a b one two f g) h) i

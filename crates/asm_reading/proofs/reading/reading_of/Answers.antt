@@ -5,7 +5,7 @@ use Rattle.asm_lexemes.specs.Lexemes.{begins_comment, more_at, sharp_at, lexemes
 use Rattle.asm_reading.proofs.LexemeLists.{read_by_text}
 use Rattle.asm_reading.proofs.reading.reading_of.Goals as goal
 
--- a line has no more lexemes than bytes
+-- A line has no more lexemes than bytes.
 one_more : (blank comment : Bool) (w : Lexeme) (xs ys : List Lexeme) (n : ℕ) → length xs ≤ n → length ys ≤ n → length (if blank then xs else (if comment then [] else w ∷ ys)) ≤ suc n
 one_more true comment w xs ys n h i = omega (arith, h)
 one_more false true w xs ys n h i = omega arith

@@ -7,7 +7,7 @@ use Rattle.ia_program.specs.Programs.{Program, IsProgram, no_relation, relations
 use Rattle.flow_facts.specs.Graphs.{known_at_entry}
 use Rattle.flow_facts.proofs.fixpoint.known_first.Goals as goal
 
--- a relation of two predicates, the lower one first
+-- A relation of two predicates, the lower one first.
 abbrev IsOfTwo : Relation → Type 0
 IsOfTwo r = (r.p < r.q) × (r.q < 64)
 

@@ -9,7 +9,7 @@ use Rattle.image_form.specs.Faults.{bundle_stages, relation_stage}
 use Rattle.image_form.proofs.ProgramFaults.{unpadded_fault, other_fault, relation_fault}
 use Rattle.image_form.proofs.reading.program.Goals as goal
 
--- the first that isn't padded is so of as many relations as there are
+-- The first that isn't padded is so of as many relations as there are.
 unpadded_of : (part : List ℕ) (count k : ℕ) (found : Option ℕ) → count ≡ k → MatchOption found (ArePadded k part) (IsFirstUnpadded k part) → MatchOption found (ArePadded count part) (IsFirstUnpadded count part)
 unpadded_of part count k found same is = subst (λ (n : ℕ). MatchOption found (ArePadded n part) (IsFirstUnpadded n part)) (sym same) is
 

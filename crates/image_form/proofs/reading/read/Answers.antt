@@ -9,7 +9,7 @@ use Rattle.image_form.proofs.Stages.{fault_of_entries, fault_of_bundles, fault_o
 use Rattle.image_form.specs.Faults.{relation_stages}
 use Rattle.image_form.proofs.reading.read.Goals as goal
 
--- the entries that were read are those of the bytes
+-- The entries that were read are those of the bytes.
 are_entries : (bytes items : List ℕ) (count : ℕ) → count ≡ bundle_count bytes → items ≡ entries_of bytes → AreEntries count items → AreEntries (bundle_count bytes) (entries_of bytes)
 are_entries bytes items count same is are = subst (AreEntries (bundle_count bytes)) is (subst (λ (k : ℕ). AreEntries k items) same are)
 

@@ -2,7 +2,7 @@ use Rattle.std.proofs.Common.{◌+◌, ◌≡◌, ◌≤◌, length, length-take
 use Rattle.io_seam.proofs.Pieces.{LosesFirst-next, at_most, exactly_where}
 use Rattle.io_seam.proofs.whole.read_all.Goals as goal
 
--- what came before and the piece that came now are one byte more than the limit
+-- What came before and the piece that came now are one byte more than the limit.
 pub returns-then-count-room-clause-too_long : goal.returns-then-count-room-clause-too_long
 returns-then-count-room-clause-too_long g c =
     let old = g.S.Source.left c.args.source.now in
@@ -27,7 +27,7 @@ returns-then-count-room-clause-taken g c =
     at_most old new (c.args.limit + 1) (c.args.limit + 1) (le_refl _)
     (LosesFirst-next old mid new front c.take.new.piece c.in-Ok.count (c.args.limit + 1) came.within all c.loop-count.invariant.so_far came.taken)
 
--- what came is within the limit, and there was no memory for it
+-- What came is within the limit, and there was no memory for it.
 pub returns-in_err-map_err-clause-taken : goal.returns-in_err-map_err-clause-taken
 returns-in_err-map_err-clause-taken g c =
     let old = g.S.Source.left c.args.source.now in

@@ -2,7 +2,7 @@ use Rattle.std.proofs.Common.{◌≡◌, ◌≤◌, ◌↔◌, ◌-◌, IsSome, 
 use Rattle.std.specs.Io.KnownBytes.{Consumes}
 use Rattle.io_seam.proofs.whole.read_all.Given as goal
 
--- the bytes so far came from the source, which didn't fail
+-- The bytes so far came from the source, which didn't fail.
 abbrev pub invariant-loop-count : goal.invariant-loop-count
 invariant-loop-count g l =
     let left = g.S.Source.left in

@@ -2,7 +2,7 @@ use Rattle.std.proofs.Common.{length, ◌-◌, ◌≡◌, ◌≤◌, ◌↔◌, 
 use Rattle.std.specs.Io.KnownBytes.{Appends}
 use Rattle.io_seam.proofs.whole.write_all.Given as goal
 
--- the bytes before `given` are with the sink, which didn't fail
+-- The bytes before `given` are with the sink, which didn't fail.
 abbrev pub invariant-loop-given : goal.invariant-loop-given
 invariant-loop-given g l =
     let given = g.K.Sink.given in

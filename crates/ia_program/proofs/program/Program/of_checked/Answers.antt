@@ -6,7 +6,7 @@ use Rattle.ia_program.specs.Programs.{Program, AreBytes, AreRelations, HasProgra
 use Rattle.ia_program.proofs.ProgramFaults.{one_program_fault, no_program_fault}
 use Rattle.ia_program.proofs.program.Program.of_checked.Goals as goal
 
--- bytes are below 256, and what is read past their end is 0
+-- Bytes are below 256, and what is read past their end is 0.
 are_bytes : (bytes : List ℕ) → ((i d : ℕ) → i < length bytes → get_or bytes i d < 256) → AreBytes bytes
 are_bytes bytes fit i = elim (cases_lt i (length bytes)) [
   | inl inside ↦ fit i 0 inside

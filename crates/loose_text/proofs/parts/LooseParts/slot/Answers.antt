@@ -21,7 +21,7 @@ returns-in_default-clause-err c =
     let full : ¬ (length (plain_of (items ++ item ∷ [])) ≤ BUNDLE_LIMIT) = rw c.insn_of.ensures at c.in_default.ensures items c.self.invariant in
     rw (sym c.self.view_is) (inr (Limit, c.fault-in_default.ensures, inr (narrow, inr (stands, inr (tt, inl (tt, refl, λ room. full (rw (sym (other_line items item 0)) at room)))))))
 
--- the instructions with the one of this line
+-- The instructions with the one of this line.
 lines : (c : goal.After-self-2-1) → c.push.new.self.items ≡ c.self.inside.items.items ++ record { item = item_of c.self.inside.fresh c.args.n c.args.draft c.args.stop; target = c.args.draft.target } ∷ []
 lines c = rw c.insn_of.ensures at c.in_ok-push.ensures.items
 
