@@ -25,7 +25,7 @@ found count entries bundle (Err i) are search_result =
     let at = searched entries bundle (Err i) search_result (rise count entries are) in (
       λ yes. absurd (cc),
       λ has. elim (cases_lt has.0 i) [
-        | inl below ↦ absurd (omega (arith, at.1.0 has.0 below, get_or_default entries has.0 bundle 0 has.1.0, has.1.1))
-        | inr above ↦ absurd (omega (arith, at.1.1 has.0 above has.1.0, get_or_default entries has.0 bundle 0 has.1.0, has.1.1))
+        | inl below ↦ absurd (omega (arith, at.1 has.0 below, get_or_default entries has.0 bundle 0 has.1, has.2))
+        | inr above ↦ absurd (omega (arith, at.2 has.0 above has.1, get_or_default entries has.0 bundle 0 has.1, has.2))
       ],
     )

@@ -2,7 +2,7 @@
 
 use crate::bytes::bytes_of;
 use crate::streams::{has_left, sink_of, source_of};
-use ia64_top::{Words, ia64};
+use ia64_top::{Arguments, ia64};
 use io_seam::{MemSink, MemSource};
 use std::alloc::Global;
 
@@ -90,7 +90,7 @@ fn status_of(
 }
 
 /// The words of a command.
-fn words_of(alloc: Global, command: &str) -> Option<Words> {
+fn words_of(alloc: Global, command: &str) -> Option<Arguments> {
     let mut words = Arguments::new(alloc);
     for word in command.split_whitespace() {
         words.push(word.as_bytes()).ok()?;

@@ -5,8 +5,8 @@ use Rattle.emulator.proofs.Groups.{none_of, some_of, is_over, is_within, over_gr
 use Rattle.emulator.proofs.run.Run.run_groups.Goals as goal
 use Rattle.emulator.proofs.run.Run.run_groups.Goals.{then-left-eq0-via-then-left-eq0, then-left-eq0-via-else-left-eq0+then-is_some}
 
-pub place_numbered-last-requires : goal.place_numbered-last-requires
-place_numbered-last-requires c = number_below c.args.code.now c.loop-how.self.number c.requires.program c.loop-how.invariant.under_way.place
+pub place_numbered-requires : goal.place_numbered-requires
+place_numbered-requires c = number_below c.args.code.now c.loop-how.self.number c.requires.program c.loop-how.invariant.under_way.place
 
 pub returns-then-left-eq0-clause-value : goal.returns-then-left-eq0-clause-value
 returns-then-left-eq0-clause-value c =
@@ -26,7 +26,7 @@ returns-then-left-eq0-clause-value c =
 pub returns-then-left-eq0-clause-event : goal.returns-then-left-eq0-clause-event
 returns-then-left-eq0-clause-event c one =
     let over = is_over c.args.code.now (progress_of c.loop-how.self) (progress_of c.advance.new.self) c.in-Some.how c.loop-how.invariant.running c.in-Some.ensures.value (sym c.in-Some.ensures.how) in
-    rw (c.place_numbered-last.ensures, c.place_at-first.ensures) (over.event ∙ c.loop-how.invariant.event one)
+    rw (c.place_numbered.ensures, c.place_at.ensures) (over.event ∙ c.loop-how.invariant.event one)
 
 pub loop-how-preserved-in-Some : goal.loop-how-preserved-in-Some
 loop-how-preserved-in-Some c =
