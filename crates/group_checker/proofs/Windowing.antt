@@ -1,6 +1,6 @@
 -- The window moves on.
-use Rattle.std.proofs.Common.{◌≡◌, ℕ, ◌+◌, ◌<◌, ◌≤◌, ◌⊎◌, Bool, true, false, Some, List, [], ◌∷◌, ◌++◌, length, length-append, length-set, get_or, get_or-set_same, get_or-set_other, set, refl, sym, ap, ◌∙◌, subst, arith, inl, inr}
-use Rattle.std.specs.Prelude.{Contains}
+use Rattle.std.proofs.Common.{◌≡◌, ℕ, ◌+◌, ◌<◌, ◌≤◌, ◌⊎◌, Bool, true, false, Some, List, [], ◌∷◌, ◌++◌, suc, length, length-append, length-set, length-take-le, take, take_all, take-suc, get_or, get_or-take, get_or-set_same, get_or-set_other, set, refl, sym, ap, ◌∙◌, subst, arith, inl, inr}
+use Rattle.std.specs.Prelude.{Contains, bit_or}
 use Rattle.std.proofs.lemmas.Bool.{cases_eq, or_cases, or_left, or_right, true≢false}
 use Rattle.ia_program.specs.declared.place.Place.{Place}
 use Rattle.ia_program.specs.Places.{place_number, IsBefore}
@@ -310,6 +310,52 @@ one_advanced g j mask old now n a b adv at on = record {
   where
     kept : (m : ℕ) (c : EarlierSlot) → (m ≡ n → ⊥) → IsAt (set now n b) m c → IsAt now m c
     kept m c ne h = record { short = omega (arith, h.short, length-set now n b); is = sym (get_or-set_other now n m b c ne) ∙ h.is }
+
+-- Where all slots have gone on, and one behind them too, these are the others and what that one has become.
+pub record AreWith (g : Graph) (j : Place) (mask : ℕ) (old : List EarlierSlot) (e : EarlierSlot) (new : List EarlierSlot) : Type 0 where
+  pub others : List EarlierSlot
+  pub last : EarlierSlot
+  pub advanced : HasAdvanced g j mask old others (length old)
+  pub on : GoesOn g j mask e last
+  pub is : new ≡ others ++ last ∷ []
+
+pub advanced_with : (g : Graph) (j : Place) (mask : ℕ) (old new : List EarlierSlot) (e : EarlierSlot) → HasAdvanced g j mask (old ++ e ∷ []) new (length (old ++ e ∷ [])) → AreWith g j mask old e new
+advanced_with g j mask old new e adv = record {
+  others = take (length old) new;
+  last = get_or new (length old) e;
+  advanced = record {
+    same_length = length-take-le (length old) new (omega (arith, sized));
+    done = λ m b l h.
+        let (a, at, on) = adv.done m b (omega (arith, sized, adv.same_length)) (within m b l h) in
+        elim (at_push old e m a at) [
+          | inl k ↦ (a, k, on)
+          | inr k ↦ absurd (omega (arith, k.0))
+        ];
+    left = λ m b l h. absurd (omega (arith, h.short, length-take-le (length old) new (omega (arith, sized))));
+  };
+  on = (let (a, at, on) = adv.done (length old) (get_or new (length old) e) (omega (arith, sized, adv.same_length)) (earlier_at new (length old) e (omega (arith, sized))) in
+      subst (λ (q : EarlierSlot). GoesOn g j mask q (get_or new (length old) e)) (at_once (old ++ e ∷ []) (length old) a e at (pushed_last old e)) on);
+  is = sym (take_all (length old + 1) new (omega (arith, sized))) ∙ ap (λ (k : ℕ). take k new) one_more ∙ take-suc new (length old) e (omega (arith, sized));
+}
+  where
+    sized : length new ≡ length old + 1
+    sized = omega (arith, adv.same_length, length-append old (e ∷ []))
+
+    one_more : length old + 1 ≡ suc (length old)
+    one_more = omega arith
+
+    within : (m : ℕ) (b : EarlierSlot) → m < length old → IsAt (take (length old) new) m b → IsAt new m b
+    within m b l h = record { short = omega (arith, sized); is = sym (get_or-take (length old) new m b l) ∙ h.is }
+
+-- What that one has become is the slot at j, where it was that before.
+pub is_slot_of : (g : Graph) (j : Place) (mask : ℕ) (e last : EarlierSlot) → GoesOn g j mask e last → e.place ≡ j → e.clears ≡ clears_at g j → e.masks ≡ accesses_at g j → e.written ≡ 0 → IsSlotOf g j (pairs_of e.known) mask last
+is_slot_of g j mask e last on place clears accesses none = record {
+  place = on.place ∙ place;
+  clears = on.clears ∙ clears;
+  accesses = on.accesses ∙ accesses;
+  known = on.known;
+  written = on.written ∙ ap (λ (n : ℕ). bit_or n mask) none;
+}
 
 -- The predicates that are written.
 pub guard_mask : (mask : ℕ) (accesses : List Access) → ((g : ℕ) → g < 64 → bit mask g ≡ may_write_guard g accesses) → IsGuardMask mask accesses

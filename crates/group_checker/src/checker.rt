@@ -21,7 +21,33 @@ use slot_table::{Slot, SlotTable};
 use std::alloc::{AllocError, Global};
 
 /// Reports what is broken by the n-th slot of the window and the second slot, if all that is broken with earlier ones
-/// is reported.
+/// is reported. It stands apart, so that no room is set aside for what is broken where that is soon seen to be nothing.
+///
+/// # Errors
+///
+/// Want of memory.
+#[inline(never)]
+fn report_pair(
+    window: &[EarlierSlot],
+    n: usize,
+    second: Place,
+    slot: &Slot,
+    seconds: &Masks,
+    report: &mut Report,
+) -> Result<(), AllocError>
+    requires inside { n < length window.now }
+    requires room { report.old.total + pair_bound < 2 ^ 64 }
+    requires shown { length report.old.shown ≤ SHOWN_LIMIT }
+    ensures total { OnOk result (report.new.total ≤ report.old.total + pair_bound) }
+    ensures shown { OnOk result (length report.new.shown ≤ SHOWN_LIMIT) }
+    ensures reports { OnOk result ((p : Program) (bound : ℕ) → HasWindow (over_program p) (is_stopped p.bundles) window.now second slot.now seconds.now → HasReported p report.old (IsEarlierPair window.now second n) bound → HasReported p report.new (IsEarlierPair window.now second (n + 1)) (bound + pair_bound)) }
+{
+    let broken = pair_broken(window, n, slot, seconds);
+    report.add_all(window[n].place, second, &broken)?;
+    Ok(())
+}
+
+/// The same; most slots are soon seen to be apart.
 ///
 /// # Errors
 ///
@@ -44,9 +70,7 @@ fn check_pair(
     if are_apart(window, n, slot, seconds) {
         return Ok(());
     }
-    let broken = pair_broken(window, n, slot, seconds);
-    report.add_all(window[n].place, second, &broken)?;
-    Ok(())
+    report_pair(window, n, second, slot, seconds, report)
 }
 
 /// Reports what is broken with this second slot, if all that is broken with earlier ones is reported. `seconds`

@@ -93,20 +93,26 @@ fn pass_all(window: &mut Vec<EarlierSlot>, slot: &Slot, mask: u64, mut passed: P
 }
 
 /// Takes the earlier slots past the one under way, which may write the predicates of the mask and before which `here` is known
-/// on all walks that end there. Returns what is known past it on these.
-pub(crate) fn advance(window: &mut Vec<EarlierSlot>, slot: &Slot, mask: u64, here: &Facts) -> Facts
-    ensures known { pairs_of result ≡ pairs_by (pairs_of here.now) (action_rule slot.now.action Falls slot.now.qp) }
-    ensures advanced { (g : Graph) (has_stop : Place → Bool) (j : Place) → Describes g has_stop j slot.now → HasAdvanced g j mask window.old.items window.new.items (length window.old.items) }
+/// on all walks that end there.
+pub(crate) fn advance(window: &mut Vec<EarlierSlot>, slot: &Slot, mask: u64, here: &Facts)
+    ensures { (g : Graph) (has_stop : Place → Bool) (j : Place) → Describes g has_stop j slot.now → HasAdvanced g j mask window.old.items window.new.items (length window.old.items) }
 {
     if keeps_pairs(&slot.action, Edge::Falls) {
         mark_all(window, slot, mask);
-        return *here;
+    } else {
+        change_all(window, slot, mask, here);
     }
+}
+
+/// The same of a slot that may change what is known.
+#[inline(never)]
+fn change_all(window: &mut Vec<EarlierSlot>, slot: &Slot, mask: u64, here: &Facts)
+    ensures { (g : Graph) (has_stop : Place → Bool) (j : Place) → Describes g has_stop j slot.now → HasAdvanced g j mask window.old.items window.new.items (length window.old.items) }
+{
     let after = here.after_action(&slot.action, slot.qp, Edge::Falls);
     let passed = Passed {
         before: *here,
         after,
     };
     pass_all(window, slot, mask, passed);
-    after
 }

@@ -126,14 +126,14 @@ impl Window {
             return Ok(());
         }
         let written = masks.written_predicates();
-        let known = advance(&mut self.slots, slot, written, here);
         self.slots.push(EarlierSlot {
             place,
             clears: clears(&slot.action),
-            known,
-            written,
+            known: *here,
+            written: 0,
             masks,
         })?;
+        advance(&mut self.slots, slot, written, here);
         Ok(())
     }
 }

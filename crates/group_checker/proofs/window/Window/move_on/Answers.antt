@@ -2,8 +2,8 @@ use Rattle.std.proofs.Common.{◌≡◌, List, ◌∙◌, sym, subst, refl}
 use Rattle.predicate_rel.specs.Pairs.{pairs_of}
 use Rattle.group_checker.specs.declared.window.EarlierSlot.{EarlierSlot}
 use Rattle.group_checker.specs.Windows.{IsWindow, IsGuardMask}
-use Rattle.group_checker.proofs.Slots.{slot_place, slot_clears, slot_past, slot_joins, slot_parts}
-use Rattle.group_checker.proofs.Windowing.{next_window, parted_window, unreached_window, guard_mask}
+use Rattle.group_checker.proofs.Slots.{slot_place, slot_clears, slot_joins, slot_parts}
+use Rattle.group_checker.proofs.Windowing.{next_window, parted_window, unreached_window, advanced_with, is_slot_of, guard_mask}
 use Rattle.group_checker.proofs.window.Window.move_on.Goals as goal
 
 pub returns : goal.returns
@@ -13,13 +13,15 @@ returns c g has_stop next known u follows =
     let f = pairs_of c.in-Some.here.now in
     let old = c.self.inside.slots.items in
     let was : old ≡ c.args.self.now = c.self.view_is in
-    rw c.in_ok-push.ensures.items (next_window g has_stop j next f c.written_predicates-written.result old c.advance-known.new.window.items _
+    let mask = c.written_predicates-written.result in
+    let all = advanced_with g j mask old _ _ (rw c.in_ok-push.ensures.items at (c.advance.ensures g has_stop j u.slot)) in
+    rw all.is (next_window g has_stop j next f mask old all.others all.last
     (slot_joins g has_stop j s u.slot next (sym c.joins.ensures ∙ c.if-not-joins.false) follows)
     (rw c.in-Some.is at known)
     (subst (λ (es : List EarlierSlot). IsWindow g has_stop es j) (sym was) u.window)
-    (c.advance-known.ensures.advanced g has_stop j u.slot)
-    (record { place = refl; clears = c.clears.ensures ∙ sym (slot_clears g has_stop j s u.slot); accesses = u.accesses; known = c.advance-known.ensures.known ∙ slot_past g has_stop j s u.slot f; written = refl })
-    (subst (IsGuardMask c.written_predicates-written.result) u.accesses (guard_mask c.written_predicates-written.result c.args.masks c.written_predicates-written.ensures)))
+    all.advanced
+    (is_slot_of g j mask _ _ all.on refl (c.clears.ensures ∙ sym (slot_clears g has_stop j s u.slot)) u.accesses refl)
+    (subst (IsGuardMask mask) u.accesses (guard_mask mask c.args.masks c.written_predicates-written.ensures)))
 
 pub returns-in_default : goal.returns-in_default
 returns-in_default c g has_stop next known u follows =
