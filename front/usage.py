@@ -19,7 +19,7 @@ assembler.
   list FILE [FUNCTION..]
                   the bundles of functions, or of a program, with their bytes
   show FILE [FUNCTION..]
-                  a listing of functions, or the text of a program
+                  the text of functions, or of a program
   stops FILE      the text of the program into which the instructions of a text are packed, with the stops that they need
   loosen FILE     the instructions of a text, without its bundles and stops
   draw FILE [FUNCTION..] -o x.svg
