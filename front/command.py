@@ -19,6 +19,7 @@ from front.judging import Judge
 from front.messages import counted
 from front.content import read_file, write_file
 from front.program import Program
+from front.texts import RefusedInput
 
 # ---- Words -----------------------------------------------------------------------------------------------
 
@@ -159,7 +160,7 @@ def show(options, program):
         return show_functions(file, options, program)
     if options.functions:
         raise Fault("a program, which has no functions with names")
-    return plain_answer(program, [options.command], file.data)
+    return plain_answer(program, [options.command], file.data, options.file)
 
 
 def built(file, options, program):
@@ -168,7 +169,7 @@ def built(file, options, program):
     if status == 0:
         return files.File(file.label, file.path, Kind.IMAGE, printed)
     if not files.is_source(options.file):
-        raise Fault(f"refused, {printed.decode('latin-1').strip()}")
+        raise RefusedInput(printed.decode("latin-1"), file.data)
     if not gnu.installed("as"):
         return read_source(file, options, program)
 
@@ -211,9 +212,12 @@ def one_file(path, syscalls=False):
 
 
 def read_text(path):
+    """The bytes of a text that is to be packed."""
     data = read_file(path)
-    if data and files.kind_of(data) is not Kind.TEXT:
-        raise Fault("no text")
+    if files.kind_of(data) is Kind.IMAGE:
+        raise Fault("an image, and no text: `ia64 show FILE` prints its text")
+    if files.kind_of(data) is Kind.CODE:
+        raise Fault("an object file or a linked one, and no text: `ia64 show FILE FUNCTION` prints that of a function")
     return data
 
 
@@ -222,7 +226,8 @@ def pack(options, program):
     those of bundles on no walk: no rule asks for a stop there."""
     from front import loosen
     data = read_text(options.file)
-    return plain_answer(program, ["stops"], without_bundles(options, program, data) if loosen.has_bundles(data) else data)
+    loose = without_bundles(options, program, data) if loosen.has_bundles(data) else data
+    return plain_answer(program, ["stops"], loose, options.file)
 
 
 def without_bundles(options, program, data):
@@ -241,9 +246,9 @@ def without_bundles(options, program, data):
 def loosened(options, program):
     from front import loosen
     data = read_text(options.file)
-    left = without_bundles(options, program, data) if loosen.has_bundles(data) else loosen.loosened(data, options.keep_stops)
-    sys.stdout.flush()
-    sys.stdout.buffer.write(left)
+    if b"\0" in data:  # which no text has: the program says where
+        raise RefusedInput(program.call(["build"], data)[1], data)
+    put_out(without_bundles(options, program, data) if loosen.has_bundles(data) else loosen.loosened(data, options.keep_stops))
     return DONE
 
 
@@ -255,13 +260,13 @@ def read_program(path):
     return data
 
 
-def said_of_source(path, data, refusal):
-    """What there is to say of a refused text that is a source for the GNU assembler, as its name and a directive tell that no
-    text has."""
+def refused(path, data, refusal, is_run=True):
+    """What is said of a refusal. One that is to be run may be a source for the GNU assembler, as its name and a directive tell
+    that no text has."""
     from front import programs
-    is_source = files.is_source(path) and refusal.endswith(": name")
-    directive = programs.directive_at(data, refusal) if is_source else ""
-    return f"'{printable(directive)}' is of a source for the GNU assembler; {OF_A_CALL}" if directive else ""
+    is_source = is_run and files.is_source(path) and refusal.printed.endswith(": name")
+    directive = programs.directive_at(data, refusal.printed) if is_source else ""
+    return f"{refusal}; '{printable(directive)}' is of a source for the GNU assembler; {OF_A_CALL}" if directive else str(refusal)
 
 
 def run_orders(options, program):
@@ -273,9 +278,8 @@ def run_orders(options, program):
     data = read_program(options.file)
     try:
         return print_orders(options, program, data)
-    except Fault as fault:
-        said = said_of_source(options.file, data, str(fault))
-        raise Fault(f"{fault}: {said}" if said else str(fault)) from None
+    except RefusedInput as refusal:
+        raise Fault(refused(options.file, data, refusal)) from None
 
 
 def run_trace(options, program):
@@ -290,7 +294,7 @@ def run_trace(options, program):
         return command.trace(options, program, data)
     if status == 1:
         complain(f"a program with violations isn't run: ia64 orders {options.file} shows what its groups may do")
-    return plain_answer(program, ["trace", "0", "1"], data, path=options.file)
+    return plain_answer(program, ["trace", "0", "1"], data, options.file)
 
 
 def print_orders(options, program, data):
@@ -319,8 +323,7 @@ def draw(options, program):
     if options.output:
         write_file(options.output, picture.encode())
     else:
-        sys.stdout.flush()
-        sys.stdout.buffer.write(picture.encode())
+        put_out(picture.encode())
     return DONE
 
 
@@ -374,24 +377,28 @@ def plainly(options, program):
         options.misused(f"{takes}: {usage.right_call(options.command, options.arguments)}")
     options.file = paths[0]
     data = read_program(paths[0]) if options.command in usage.LIMITS else read_file(paths[0])
-    return plain_answer(program, [options.command, *numbers], data, options.output, paths[0])
+    return plain_answer(program, [options.command, *numbers], data, paths[0], options.output)
 
 
-def plain_answer(program, arguments, data, output=None, path=""):
-    """The program's own status on an input, with what it prints handed on."""
+def plain_answer(program, arguments, data, path, output=None):
+    """The program's own status on the input that a file has, with what it prints handed on."""
     status, printed = program.raw(arguments, data)
-    if output is not None and status == 0:
+    if output is not None and status == DONE:
         write_file(output, printed)
     else:
-        sys.stdout.flush()
-        sys.stdout.buffer.write(printed)
-    if status in SAID:
-        complain(SAID[status].format(arguments[0]))
-    if status == 3 and arguments[0] in (*usage.LIMITS, "trace"):
-        said = said_of_source(path, data, printed.decode("latin-1").strip())
-        if said:
-            complain(f"{path}: {said}")
+        put_out(printed)
+    if status == REFUSED:
+        said = refused(path, data, RefusedInput(printed.decode("latin-1"), data), arguments[0] in (*usage.LIMITS, "trace"))
+        complain(f"{path}: {said}")
+    elif status in SAID:
+        complain(f"{path}: {SAID[status]}")
     return status
+
+
+def put_out(data):
+    """Puts bytes on standard output, behind the lines that are there."""
+    sys.stdout.flush()
+    sys.stdout.buffer.write(data)
 
 
 # So many functions are drawn without a name, and so many names are told of those that a file has.
@@ -400,10 +407,8 @@ MOST_FIGURES, MOST_NAMES = 10, 20
 # How what isn't run by itself is run.
 OF_A_CALL = "`ia64 call FILE FUNCTION --image PATH` makes an image of a call, which run, watch, groups, trace and orders take"
 
-# What a status of the program means that prints nothing, or not all.
-SAID = {3: "'{}' refused its input; the reason went to standard output",
-        4: "the input is longer than 16,777,216 bytes; nothing was written",
-        7: "out of memory; nothing was written"}
+# What a status of the program means: that of a refusal, and those that print nothing.
+REFUSED, SAID = 3, {4: files.TOO_LONG_SAID, 7: "the program ran out of memory"}
 
 
 # ---- The commands by their words -------------------------------------------------------------------------
@@ -449,14 +454,11 @@ WRAPPER = Path(__file__).resolve().parent.parent / "ia64"
 
 
 def find_program():
-    """The path of the program that is asked: that which the environment names, of which nothing is known to be proved, or that
-    which `./ia64` answers with."""
+    """The path of the program that is asked: that with which `./ia64` answers. It is the one that the environment names, unless
+    that wants a proved one; this isn't asked for, to be fast."""
     path = os.environ.get("IA64_PROGRAM")
     if path and os.environ.get("IA64_PROVED", "0") in ("", "0"):
         return path
-    if path:
-        complain("IA64_PROGRAM names a program of which nothing is known to be proved, and IA64_PROVED wants a proved one")
-        raise NoProgram(125)
     done = subprocess.run([WRAPPER, "--program"], stdin=subprocess.DEVNULL, stdout=subprocess.PIPE, check=False)
     if done.returncode != 0:
         raise NoProgram(done.returncode)

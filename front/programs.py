@@ -15,7 +15,7 @@ from front.judging import ACCEPTED, VIOLATED
 from front.program import END, Refusal
 from front.reports import Answer, Finding
 from front.rules import RULES
-from front.texts import REASONS, lines_of_text, parts_of, slots_of_text, without_stop
+from front.texts import RefusedInput, explained, lines_of_text, parts_of, slots_of_text, without_stop
 from front.messages import Severity, counted
 
 
@@ -58,10 +58,10 @@ def refused(file, said):
     """The refusal of a text or an image, in the program's words and in more."""
     found = re.fullmatch(REFUSAL_OF_TEXT, said)
     if found:
-        meaning = f": {REASONS[found[2]]}" if found[2] in REASONS else ""
-        finding = Finding(Severity.ERROR, Source(file.label, int(found[1])), "", "", f"refused, {found[2]}{meaning}", "refused")
+        finding = Finding(Severity.ERROR, Source(file.label, int(found[1])), "", "",
+                          f"refused, {explained(found[2], file.data)}", "refused")
     else:
-        finding = Finding(Severity.ERROR, None, file.label, "", f"refused, {said}", "refused")
+        finding = Finding(Severity.ERROR, None, file.label, "", str(RefusedInput(said, file.data)), "refused")
     file.fault = said
     return Refused(Answer(file, [], [finding], {}, {}), bool(directive_at(file.data, said)), int(found[1]) if found else 0)
 

@@ -10,6 +10,7 @@ cd "$here" || exit 1
 folder=$(mktemp -d)
 trap 'rm -rf "$folder"' EXIT
 passed=0 failed=0
+unset IA64_PROVED IA64_PROGRAM
 note() { if [ "$1" = 0 ]; then passed=$((passed + 1)); else failed=$((failed + 1)); echo "try_install: $2"; fi; }
 
 # The commands that an installed one may need, and beside them those of the documents. Neither rt nor what it brings is among them.

@@ -130,6 +130,11 @@ try 'a folder' 5 "$dir/nothing" 'reading standard input failed' "$dir" ./ia64 ch
 ./ia64 check < examples/count.s > /dev/full 2> "$dir/err"
 [ $? = 6 ] && grep -q 'writing standard output failed' "$dir/err"
 note $? 'a full output'
+printf '#!/bin/sh\necho "other $*"\nexit 9\n' > "$dir/other" && chmod +x "$dir/other" && echo 'other run 7' > "$dir/of_other"
+try 'another program' 9 "$dir/of_other" '' examples/count.s env IA64_PROGRAM="$dir/other" ./ia64 run 7
+try 'another program, and a proved one' 125 "$dir/nothing" 'IA64_PROVED wants a proved one' examples/count.s env IA64_PROGRAM="$dir/other" IA64_PROVED=1 ./ia64 run 7
+try 'another program, and a proved one, on a file' 125 "$dir/nothing" 'IA64_PROVED wants a proved one' /dev/null env IA64_PROGRAM="$dir/other" IA64_PROVED=1 ./ia64 run 7 examples/count.s
+try 'no other program' 125 "$dir/nothing" "IA64_PROGRAM names no program that can be called: $dir/none" examples/count.s env IA64_PROGRAM="$dir/none" ./ia64 check
 mkdir "$dir/links" && ln -s "$here/ia64" "$dir/links/first" && ln -s first "$dir/links/ia64"
 try 'a symbolic link' 0 "$dir/accepted" '' examples/count.s "$dir/links/ia64" check
 

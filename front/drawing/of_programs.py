@@ -50,7 +50,7 @@ def figure(file, source, program, is_proved):
     """The figure of an image, which may be that of a text."""
     status, answer = program.call(["check"], file.data)
     if status == 3:
-        raise Fault(f"refused, {answer.strip()}")
+        raise texts.RefusedInput(answer, file.data)
     total, broken = program.verdict(answer)
     image = programs.Image(file, program)
     bundles = split_all(image.code)

@@ -660,7 +660,6 @@ class Files(Case):
                      f"a big-endian ELF file of 64 bits for SPARC; {only}")
         self.refused(good[:16] + b"\4\0" + good[18:], "an ELF file of type 4, neither an object file nor linked")
         self.refused(b"", "empty")
-        self.refused(b"\0int main;\n", "neither code for Itanium, nor an archive of it, nor an image, nor a text", "a.c")
         os.mkdir("folder")
         self.assertEqual(self.call("folder", "none")[::2], (
             2, "ia64: folder: Is a directory\nia64: none: No such file or directory\n"))

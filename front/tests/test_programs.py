@@ -1,6 +1,7 @@
 """Texts and images as files, and the command line."""
 
 import json
+import os
 import subprocess
 import sys
 import unittest
@@ -68,7 +69,8 @@ class Programs(Case):
         self.assertEqual(self.lines("check", text), (2, [f"x:8{said}", counts], ""))
         # What might be a source for the GNU assembler is refused by both, and isn't one at its looks.
         self.assertEqual(self.lines("check", self.put(WRONG.replace(b"x: // label", b"x: y"))), (2, [f"x.s:8{said}", counts], ""))
-        self.assertEqual(self.lines("check", self.put(b"IA64IMG1", "x"))[1][0], "x: error: refused, image: short")
+        self.assertEqual(self.lines("check", self.put(b"IA64IMG1", "x"))[1][0],
+                         "x: error: refused, image: short: it has fewer than 24 bytes")
 
     def test_every_rule(self):
         """What is said of each rule, of a text and of its image."""
@@ -233,6 +235,39 @@ class Commands(Case):
         self.assertEqual((status, error), (0, ""))
         for command in (b"check FILE", b"list FILE", b"trial SEED"):
             self.assertIn(command, printed)
+
+    def test_a_named_program(self):
+        """The program that the environment names answers on standard input too, unless that wants a proved one."""
+        named, words = self.folder / "named", [str(ROOT / "ia64"), "run", "7"]
+        named.write_text('#!/bin/sh\necho "named $*"\nexit 9\n')
+        named.chmod(0o755)
+        for proved, status, printed in (("", 9, b"named run 7\n"), ("0", 9, b"named run 7\n"), ("1", 125, b"")):
+            for call in (words, [*words, str(example("count.s"))], [sys.executable, FRONT, "run", "7", str(example("count.s"))]):
+                done = subprocess.run(call, stdin=subprocess.DEVNULL, stdout=subprocess.PIPE, stderr=subprocess.PIPE, check=False,
+                                      env={**os.environ, "IA64_PROGRAM": str(named), "IA64_PROVED": proved})
+                self.assertEqual((done.returncode, done.stdout), (status, printed), call)
+                self.assertEqual(b"IA64_PROVED wants a proved one" in done.stderr, proved == "1")
+        done = subprocess.run(words, stdin=subprocess.DEVNULL, stdout=subprocess.PIPE, stderr=subprocess.PIPE, check=False,
+                              env={**os.environ, "IA64_PROGRAM": str(self.folder / "none")})
+        self.assertEqual((done.returncode, done.stdout), (125, b""))
+        self.assertIn(b"IA64_PROGRAM names no program that can be called", done.stderr)
+
+    def test_a_byte_0(self):
+        """What has one is refused by the program, with its line, whatever is asked; and it is said to be nothing else."""
+        char = "char: a byte that isn't a tab or one of 0x20 to 0x7e"
+        nothing = "; the file is neither code for Itanium, nor an archive of it, nor an image"
+        for name, data, line in (("first", b"\0int main;\n", 1), ("second", b"// a text\n\0\n", 2), ("late", b"\n" * 5000 + b"\0", 5001),
+                                 ("first.s", b"\0int main;\n", 1)):
+            (self.folder / name).write_bytes(data)
+            with unittest.mock.patch("front.gnu.installed", lambda tool: None):
+                self.assertEqual(self.lines("check", name)[:2], (2, [f"{name}:{line}: error: refused, {char}{nothing}",
+                                                                     "0 accepted, 0 violated, 0 not judged"]), name)
+            said = f"ia64: {name}: refused, line {line}: {char}{nothing}\n"
+            for words in (("run", "5"), ("watch", "5"), ("groups", "5", "0"), ("build",), ("stops",), ("trace",)):
+                self.assertEqual(self.ia64(*words, name), (3, f"line {line}: char\n".encode(), said), words)
+            for word in ("show", "list", "draw", "orders", "loosen"):
+                if not name.endswith(".s") or word in ("orders", "loosen"):
+                    self.assertEqual(self.ia64(word, name), (2, b"", said), word)
 
     def test_as_a_program(self):
         with asked(PROGRAM):
