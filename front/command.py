@@ -19,7 +19,7 @@ from front.judging import Judge
 from front.messages import counted
 from front.content import read_file, write_file
 from front.program import Program
-from front.texts import RefusedInput
+from front.refusals import OF_A_CALL, RefusedInput, said_of_run
 
 # ---- Words -----------------------------------------------------------------------------------------------
 
@@ -92,7 +92,7 @@ def draw_options(parser):
                         help=f"in a page of a program that runs, at most N groups of its run, which can be stepped through: by "
                              f"default {usage.TRACE_LIMIT}, which is the most, and 0 leaves the run out")
     add_code_options(parser)
-    parser.set_defaults(run=draw, misused=parser.error)
+    parser.set_defaults(run=draw, misused=parser.misused)
 
 
 def picture_path(text):
@@ -125,13 +125,13 @@ def orders_options(parser):
     parser.add_argument("--seed", type=between(0, usage.NUMBER_LIMIT), default=1, metavar="S",
                         help="of the random orders, by default 1")
     parser.add_argument("--all", action="store_true", help=f"all lines that differ, and not the first {lines.LINES} alone")
-    parser.set_defaults(run=run_orders, misused=parser.error)
+    parser.set_defaults(run=run_orders, misused=parser.misused)
 
 
 def trace_options(parser):
     from front.tracing import command
     command.add_options(parser, between)
-    parser.set_defaults(run=run_trace, misused=parser.error)
+    parser.set_defaults(run=run_trace, misused=parser.misused)
 
 
 def call_options(parser):
@@ -146,7 +146,7 @@ def plain_options(parser):
     parser.add_argument("arguments", nargs="*", metavar=f"{numbers} FILE".strip(),
                        help=f"{usage.TAKES[command]}, in any order" if numbers else "what the command takes on standard input")
     parser.add_argument("-o", "--output", metavar="PATH", help="where the answer goes, in place of standard output")
-    parser.set_defaults(run=plainly, misused=parser.error)
+    parser.set_defaults(run=plainly, misused=parser.misused)
 
 
 # ---- Commands --------------------------------------------------------------------------------------------
@@ -260,15 +260,6 @@ def read_program(path):
     return data
 
 
-def refused(path, data, refusal, is_run=True):
-    """What is said of a refusal. One that is to be run may be a source for the GNU assembler, as its name and a directive tell
-    that no text has."""
-    from front import programs
-    is_source = is_run and files.is_source(path) and refusal.printed.endswith(": name")
-    directive = programs.directive_at(data, refusal.printed) if is_source else ""
-    return f"{refusal}; '{printable(directive)}' is of a source for the GNU assembler; {OF_A_CALL}" if directive else str(refusal)
-
-
 def run_orders(options, program):
     """The states of several orders of all groups of a run, or of the orders of one group."""
     if options.group is None and options.order:
@@ -279,7 +270,7 @@ def run_orders(options, program):
     try:
         return print_orders(options, program, data)
     except RefusedInput as refusal:
-        raise Fault(refused(options.file, data, refusal)) from None
+        raise Fault(said_of_run(refusal, data, files.is_source(options.file))) from None
 
 
 def run_trace(options, program):
@@ -293,7 +284,7 @@ def run_trace(options, program):
     if status == DONE:
         return command.trace(options, program, data)
     if status == 1:
-        complain(f"a program with violations isn't run: ia64 orders {options.file} shows what its groups may do")
+        complain(f"{options.file}: violated, and so it isn't run: `ia64 orders {options.file}` shows what its groups may do")
     return plain_answer(program, ["trace", "0", "1"], data, options.file)
 
 
@@ -373,8 +364,7 @@ def plainly(options, program):
     """A command as on standard input, of a file. The numbers and the file come in any order."""
     numbers, paths = usage.parted(options.command, options.arguments)
     if len(paths) != 1 or not usage.are_numbers(options.command, numbers):
-        takes = f"'{options.command}' takes {usage.TAKES[options.command]}"
-        options.misused(f"{takes}: {usage.right_call(options.command, options.arguments)}")
+        options.misused(f"it takes {usage.TAKES[options.command]}: {usage.right_call(options.command, options.arguments)}")
     options.file = paths[0]
     data = read_program(paths[0]) if options.command in usage.LIMITS else read_file(paths[0])
     return plain_answer(program, [options.command, *numbers], data, paths[0], options.output)
@@ -388,8 +378,8 @@ def plain_answer(program, arguments, data, path, output=None):
     else:
         put_out(printed)
     if status == REFUSED:
-        said = refused(path, data, RefusedInput(printed.decode("latin-1"), data), arguments[0] in (*usage.LIMITS, "trace"))
-        complain(f"{path}: {said}")
+        is_source = arguments[0] in (*usage.LIMITS, "trace") and files.is_source(path)
+        complain(f"{path}: {said_of_run(RefusedInput(printed.decode('latin-1'), data), data, is_source)}")
     elif status in SAID:
         complain(f"{path}: {SAID[status]}")
     return status
@@ -403,9 +393,6 @@ def put_out(data):
 
 # So many functions are drawn without a name, and so many names are told of those that a file has.
 MOST_FIGURES, MOST_NAMES = 10, 20
-
-# How what isn't run by itself is run.
-OF_A_CALL = "`ia64 call FILE FUNCTION --image PATH` makes an image of a call, which run, watch, groups, trace and orders take"
 
 # What a status of the program means: that of a refusal, and those that print nothing.
 REFUSED, SAID = 3, {4: files.TOO_LONG_SAID, 7: "the program ran out of memory"}
@@ -433,10 +420,20 @@ COMMANDS = {
 
 
 class Parser(argparse.ArgumentParser):
-    """The library's, which passes over an output that fails."""
+    """The library's, which passes over an output that fails, and says on one line what is wrong with words."""
 
     def print_help(self, file=None):
         (file or sys.stdout).write(self.format_help())
+
+    def error(self, message):
+        """What the library finds wrong with the words of a command."""
+        missing = re.sub(r"^the following arguments are required: (.*)", r"\1 is missing", message)
+        self.misused(f"{missing}; `{self.prog} --help` says what it takes")
+
+    def misused(self, message):
+        """Ends a call with wrong words."""
+        complain(f"{self.prog.split()[1]}: {message}")
+        sys.exit(WRONG)
 
 
 def parser_of(name):
@@ -502,7 +499,7 @@ def main(arguments=None):
         options = parser_of(arguments[0]).parse_args(arguments[1:])
         return options.run(options, Program(find_program))
     except Fault as fault:
-        complain(f"{getattr(options, 'file', arguments[0])}: {fault}")
+        complain(f"{fault.path or getattr(options, 'file', arguments[0])}: {fault}")
     except ProgramFault as fault:
         complain(str(fault))
     except NoProgram as none:
@@ -513,7 +510,7 @@ def main(arguments=None):
 
 
 def closed_output():
-    complain("standard output is closed")
+    complain("standard output: it is closed")
     return WRONG
 
 
@@ -539,7 +536,7 @@ def run():
     except BrokenPipeError:
         os.dup2(os.open(os.devnull, os.O_WRONLY), sys.stdout.fileno())
     except OSError as fault:
-        complain(f"the lines can't be written: {fault.strerror}")
+        complain(f"standard output: it can't be written: {fault.strerror}")
         os.dup2(os.open(os.devnull, os.O_WRONLY), sys.stdout.fileno())
     except KeyboardInterrupt:
         return 130

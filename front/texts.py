@@ -7,8 +7,6 @@ the program takes.
 import re
 from typing import Dict, List, NamedTuple
 
-from front.faults import Fault
-
 CODE = re.compile(r'(?:[^"/]|"[^"]*"|/(?!/)|")*')
 OPENING = re.compile(r"\{\s*\.(m(?:ii|lx|mi|fi|mf|ib|bb|mb|fb)|bbb)#?$")
 LABEL = re.compile(r"[A-Za-z_.$][\w.$]*#?\s*:$")
@@ -35,37 +33,6 @@ REASONS = {
     "relation": "no entry follows the relation",
     "long run": "192 slots stand before it without an end of their run",
 }
-
-# The same of a refused image; "Printed texts" has them whole.
-REASONS_OF_IMAGES = {
-    "short": "it has fewer than 24 bytes",
-    "magic": "it doesn't begin with IA64IMG1 or IA64IMG2, as an image does",
-    "counts": "a number of its head is out of its range",
-    "length": "bytes are missing or left over",
-    "template": "no bundle has this template",
-    "unlisted": "no instruction of the profile has the word of this slot",
-    "target": "the target of this branch or check is no bundle",
-    "long run": REASONS["long run"],
-}
-
-# What is said where a text has a byte 0, as files of other kinds have.
-NOTHING_ELSE = "; the file is neither code for Itanium, nor an archive of it, nor an image"
-
-
-class RefusedInput(Fault):
-    """The program refuses a text or an image: what it prints, and that with what it means."""
-
-    def __init__(self, printed, data):
-        self.printed = printed.rstrip("\n")
-        place, _, reason = self.printed.rpartition(": ")
-        super().__init__(f"refused, {place}: {explained(reason, data, place.startswith('image'))}")
-
-
-def explained(reason, data, is_image=False):
-    """A reason why the program refuses an input, with what it means."""
-    meaning = (REASONS_OF_IMAGES if is_image else REASONS).get(reason)
-    said = f"{reason}: {meaning}" if meaning else reason
-    return said + NOTHING_ELSE * (reason == "char" and b"\0" in data)
 
 
 class Slot(NamedTuple):

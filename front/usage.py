@@ -113,7 +113,10 @@ def explained(arguments, commands):
     if not arguments:
         return ["a command is missing"]
     if arguments[0] == "trial":
-        return [f"'trial' takes {TRIAL}: {right_call('trial')}"]
+        return [f"trial: it takes {TRIAL}: {right_call('trial')}"]
     meant = re.sub(r".*-", "", arguments[0]).lower()
-    perhaps = [f"perhaps: {right_call(meant, arguments[1:])}"] if meant in (*commands, "trial") else []
+    if meant in (*commands, "trial"):
+        perhaps = [f"perhaps: {right_call(meant, arguments[1:])}"]
+    else:
+        perhaps = [f"perhaps: ia64 check {arguments[0]}"] * os.path.exists(arguments[0])
     return [f"no command '{arguments[0]}'", *perhaps]

@@ -105,15 +105,15 @@ note $? 'an object file'
 try 'no words' 2 "$dir/nothing" 'a command is missing' /dev/null ./ia64
 try 'run without a number' 2 "$dir/nothing" 'ia64 run 100 FILE' /dev/null ./ia64 run
 try 'run of too many groups' 2 "$dir/nothing" 'ia64 run 10000000 FILE' /dev/null ./ia64 run 99999999999999999999
-try 'watch without a number' 2 "$dir/nothing" "'watch' takes one number.*: ia64 watch 100 FILE" /dev/null ./ia64 watch
+try 'watch without a number' 2 "$dir/nothing" 'watch: it takes one number.*: ia64 watch 100 FILE' /dev/null ./ia64 watch
 try 'watch of too many groups' 2 "$dir/nothing" 'ia64 watch 10000000 FILE' /dev/null ./ia64 watch 10000001
 try 'a trial without bundles' 2 "$dir/nothing" 'ia64 trial 1 100' /dev/null ./ia64 trial 7 0
-try 'groups without an order' 2 "$dir/nothing" "'groups' takes two numbers.*: ia64 groups 7 0 FILE" /dev/null ./ia64 groups 7
+try 'groups without an order' 2 "$dir/nothing" 'groups: it takes two numbers.*: ia64 groups 7 0 FILE' /dev/null ./ia64 groups 7
 try 'groups with too large an order' 2 "$dir/nothing" ': ia64 groups 100 0 FILE' /dev/null ./ia64 groups 100 18446744073709551616
 try 'too many groups, with the last order' 2 "$dir/nothing" 'ia64 groups 10000000 18446744073709551615 FILE' /dev/null ./ia64 groups 10000001 18446744073709551615
 try 'no groups, with an order' 2 "$dir/nothing" 'ia64 groups 100 7 FILE' /dev/null ./ia64 groups 0 7
 try 'a third number' 2 "$dir/nothing" 'ia64 groups 5 6 FILE' /dev/null ./ia64 groups 5 6 7
-try 'too many groups to trace' 2 "$dir/nothing" "'trace' takes a file.*: ia64 trace FILE 20, or ia64 trace 0 20 < FILE" /dev/null ./ia64 trace 0 101
+try 'too many groups to trace' 2 "$dir/nothing" 'trace: it takes a file.*: ia64 trace FILE 20, or ia64 trace 0 20 < FILE' /dev/null ./ia64 trace 0 101
 try 'upper case' 2 "$dir/nothing" 'perhaps: ia64 check examples/count.s' /dev/null ./ia64 Check examples/count.s
 try 'stops in upper case' 2 "$dir/nothing" 'perhaps: ia64 stops FILE' /dev/null ./ia64 Stops
 try 'upper case before a number' 2 "$dir/nothing" 'perhaps: ia64 watch 7 examples/count.s' /dev/null ./ia64 --Watch 7 examples/count.s

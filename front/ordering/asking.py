@@ -2,7 +2,7 @@
 
 from front.faults import Fault, ProgramFault
 from front.files import TOO_LONG_SAID
-from front.texts import RefusedInput
+from front.refusals import RefusedInput
 
 DONE, VIOLATED, WORDS, REFUSED, TOO_LONG, LIMIT, FAULTED = 0, 1, 2, 3, 4, 8, 9
 

@@ -11,7 +11,7 @@ from front.sources.instructions import Alignment
 from front.sources.operands import Named
 from front.sources.reader import Reference
 from front.sources.shown import shown
-from front.texts import explained
+from front.refusals import explained
 
 # The text has an end, a `break`, behind so many bundles, since the program takes no more than 64 without a stop, whatever a
 # function has.
@@ -180,7 +180,7 @@ class Program:
         found = re.fullmatch(r"line (\d+): (.*)\n", said)
         if not found:
             return Unread(self.line, f"refused, {said.strip()}")
-        return Unread(self.lines[int(found[1]) - 1] or self.line, f"refused, {explained(found[2], b'')}", False)
+        return Unread(self.lines[int(found[1]) - 1] or self.line, f"refused, {explained(found[2])}", False)
 
     def require_bundle(self, instruction):
         """A target that the source lacks is outside of it, and one that it has is a bundle."""

@@ -842,12 +842,12 @@ class Calls(Case):
             with open("/dev/full", "w") as full, asked(PROGRAM):
                 done = subprocess.run([sys.executable, FRONT, *words], stdout=full, stderr=subprocess.PIPE, check=False)
             self.assertEqual(done.returncode, 2)
-            self.assertEqual(done.stderr, b"ia64: the lines can't be written: No space left on device\n")
+            self.assertEqual(done.stderr, b"ia64: standard output: it can't be written: No space left on device\n")
 
     def test_a_closed_output(self):
         command = ["sh", "-c", 'exec "$0" "$1" check --help >&-', sys.executable, FRONT]
         done = subprocess.run(command, stderr=subprocess.PIPE, check=False)
-        self.assertEqual((done.returncode, done.stderr), (2, b"ia64: standard output is closed\n"))
+        self.assertEqual((done.returncode, done.stderr), (2, b"ia64: standard output: it is closed\n"))
 
     def test_a_stream_without_an_end(self):
         with unittest.mock.patch("front.content.MOST_STREAMED", 1000), self.assertRaises(Fault) as refused:

@@ -222,10 +222,12 @@ class Commands(Case):
 
     def test_wrong_words(self):
         for words, said in (((), "a command is missing"), (("assemble",), "no command 'assemble'"),
-                            (("run", "0", "x"), "'run' takes one number"), (("groups", "7", example("count.s")), "'groups' takes two numbers"),
+                            (("run", "0", "x"), "run: it takes one number"), (("groups", "7", example("count.s")), "groups: it takes two numbers"),
                             (("Check", example("count.s")), f"perhaps: ia64 check {example('count.s')}"),
                             (("run", "100", "nowhere"), "nowhere: No such file or directory"),
-                            (("list", "nowhere"), "nowhere: No such file or directory")):
+                            (("list", "nowhere"), "nowhere: No such file or directory"), (("check",), "check: FILE is missing; `ia64 check"),
+                            ((example("count.s"),), f"perhaps: ia64 check {example('count.s')}"),
+                            (("check", "--no"), "ia64: check: FILE is missing; `ia64 check --help` says what it takes\n")):
             status, printed, error = self.ia64(*words)
             self.assertEqual((status, printed), (2, b""), words)
             self.assertIn(said, error)
