@@ -17,10 +17,10 @@ from front import flow, gnu, messages, stand_ins
 from front.bundle import branches, slots_of, stops_behind
 from front.functions import MOST_BUNDLES, MOST_ENTRIES
 from front.judging import Unlisted, Verdict
-from front.program import batches
+from front.program import END_LINES, batches
 
-# The lines of an end bundle, behind a comment.
-END = ("// What stands elsewhere isn't looked at.", "{ .mii", "  break.m 0x0", "  nop.i 0x0", "  nop.i 0x0 ;;", "}")
+# An end bundle, behind a comment.
+END = ("// What stands elsewhere isn't looked at.", *END_LINES)
 
 # What a label may be: no register, and not too long. One that is made is shorter, so that a number finds room behind it.
 LABEL = re.compile(r"(?!(?:[rpb][0-9]+|rp)$)[A-Za-z_.$][\w.$]{0,62}$", re.A)

@@ -6,6 +6,7 @@ from typing import List, NamedTuple, Optional
 from front.code import Place
 from front.faults import Unread
 from front.functions import MOST_BUNDLES
+from front.program import END_LINES
 from front.sources.bundles import Bundle, laid_out, last_slot
 from front.sources.instructions import Alignment
 from front.sources.operands import Named
@@ -17,7 +18,6 @@ from front.refusals import explained
 # function has.
 STRETCH = 50
 END = "end"
-END_LINES = ("{ .mii", "  break.m 0", "  nop.i 0", "  nop.i 0 ;;", "}")
 MOST = MOST_BUNDLES * STRETCH // (STRETCH + 1) - 1
 TAGS = range(-256, 256)
 

@@ -947,7 +947,7 @@ class Calls(Case):
         self.assertEqual(self.call("wrong", 1, "--trace"), self.call("wrong", 1))
         self.assertNotIn("steps", json.loads(self.ia64("call", "x.o", "wrong", "--trace", "--format", "json")[1]))
         self.refuses("--trace tells a run slot by slot, and with --groups there is none", "x.o", "add", "--trace", "--groups", 0)
-        self.refuses("x is no number from 1 to 10000000", "x.o", "add", "--trace", "x")
+        self.refuses("argument 1, x: neither a number nor another form of an argument", "x.o", "add", "--trace", "x")
         self.refuses("0 is no number from 1 to 10000000", "x.o", "add", "--trace", 0)
 
     def test_a_trace_in_json(self):

@@ -107,7 +107,7 @@ class Examples(Compared):
         self.input.write_text("no instruction\n")
         self.refuses("input: refused, line 1: name", self.input)
         self.input.write_bytes(b"IA64IMG1")
-        self.refuses("input: image: short", self.input)
+        self.refuses("input: refused, image: short", self.input)
         self.refuses("nowhere: No such file", self.folder / "nowhere")
 
 
@@ -458,7 +458,7 @@ class OneGroup(Compared):
         self.input.write_text("no instruction\n")
         self.refuses("input: refused, line 1: name", self.input, 1)
         self.input.write_bytes(b"IA64IMG1")
-        self.refuses("input: image: short", self.input, 1)
+        self.refuses("input: refused, image: short", self.input, 1)
 
 
 class Writes(Compared):
