@@ -204,7 +204,7 @@ def show_functions(file, options, program):
 def one_file(path, syscalls=False):
     found = list(itertools.islice(files.items(path), 2))
     if len(found) != 1:
-        raise Fault("an archive, and one file is wanted")
+        raise Fault(f"an archive of {'several files' if found else 'no file'}, and one is wanted: `ar x` takes out its members")
     file = found[0].read(syscalls)
     if file.fault is not None:
         raise Fault(file.fault)
@@ -214,11 +214,16 @@ def one_file(path, syscalls=False):
 def read_text(path):
     """The bytes of a text that is to be packed."""
     data = read_file(path)
-    if files.kind_of(data) is Kind.IMAGE:
-        raise Fault("an image, and no text: `ia64 show FILE` prints its text")
-    if files.kind_of(data) is Kind.CODE:
-        raise Fault("an object file or a linked one, and no text: `ia64 show FILE FUNCTION` prints that of a function")
+    kind = files.kind_of(data)
+    if kind in NO_TEXTS:
+        raise Fault(NO_TEXTS[kind])
     return data
+
+
+# What is said of files that are no texts.
+NO_TEXTS = {Kind.IMAGE: "an image, and no text: `ia64 show FILE` prints its text",
+            Kind.CODE: "an object file or a linked one, and no text: `ia64 show FILE FUNCTION` prints that of a function",
+            Kind.ARCHIVE: "an archive, and no text: `ar x FILE` takes out its members"}
 
 
 def pack(options, program):
@@ -255,8 +260,10 @@ def loosened(options, program):
 def read_program(path):
     """The bytes of a text or an image that is to be run."""
     data = read_file(path)
-    if files.kind_of(data) is Kind.CODE:
-        raise Fault(f"an object file or a linked one, and no program; {OF_A_CALL}")
+    kind = files.kind_of(data)
+    if kind in (Kind.CODE, Kind.ARCHIVE):
+        what = "an object file or a linked one" if kind is Kind.CODE else "an archive"
+        raise Fault(f"{what}, and no program; {OF_A_CALL}")
     return data
 
 

@@ -20,6 +20,7 @@ TOO_LONG_SAID = f"longer than {LONGEST_INPUT:,} bytes, the most that a text or a
 
 class Kind(Enum):
     CODE = "code"                      # an object file, a linked program or a shared library
+    ARCHIVE = "archive"
     IMAGE = "image"                    # of the proved program
     TEXT = "text"                      # of the proved program, or a source for the GNU assembler
 
@@ -42,6 +43,8 @@ def kind_of(data):
         return Kind.CODE
     if data.startswith(IMAGES):
         return Kind.IMAGE
+    if archive.is_archive(data):
+        return Kind.ARCHIVE
     return Kind.TEXT if data else None
 
 
@@ -68,6 +71,8 @@ def read_member(label, path, data, syscalls):
         return read_code(label, path, data, syscalls)
     if kind is None:
         return File(label, path, fault="empty")
+    if kind is Kind.ARCHIVE:
+        return File(label, path, fault="an archive in an archive, which isn't read")
     if len(data) > LONGEST_INPUT:
         return File(label, path, kind, fault=TOO_LONG_SAID)
     return File(label, path, kind, data)
@@ -91,7 +96,7 @@ def items(path):
     label = printable(path)
     try:
         with opened(path) as data:
-            if data[:len(archive.ARCHIVE)] not in (archive.ARCHIVE, archive.THIN_ARCHIVE):
+            if not archive.is_archive(data[:len(archive.ARCHIVE)]):
                 yield Item(path, label, data[:])
                 return
             for name, body in archive.members(path, data):

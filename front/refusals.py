@@ -2,7 +2,6 @@
 
 import re
 
-from front import archive
 from front.faults import Fault, printable
 from front.files import Kind, kind_of
 from front.texts import REASONS, lines_of_text
@@ -20,10 +19,10 @@ REASONS_OF_IMAGES = {
     "long run": REASONS["long run"],
 }
 
-# What is said beside of a byte that no text has, by what stands in the file.
-CODE = "it is an object file or a linked one: `ia64 show FILE FUNCTION` prints the text of a function"
-ARCHIVE = "it is an archive: `ia64 check FILE` says what stands in its members"
-NOTHING_ELSE = "the file is neither code for Itanium, nor an archive of it, nor an image"
+# What is said beside of a file that is neither a text nor an image, by what stands in it; and of a byte 0, which no text has.
+OTHERS = {Kind.CODE: "; it is an object file or a linked one: `ia64 show FILE FUNCTION` prints the text of a function",
+          Kind.ARCHIVE: "; it is an archive: `ia64 check FILE` takes it, and `ar x` takes out its members"}
+NOTHING_ELSE = "; the file is neither code for Itanium, nor an archive of it, nor an image"
 
 REFUSAL_OF_TEXT = r"line (\d+): (.*)"
 
@@ -46,17 +45,10 @@ class RefusedInput(Fault):
 
 
 def explained(reason, data=b"", is_image=False):
-    """A reason why the program refuses an input, with what it means, and what a file is that has a byte 0."""
+    """A reason why the program refuses an input, with what it means, and what else the input is."""
     meaning = (REASONS_OF_IMAGES if is_image else REASONS).get(reason)
     said = f"{reason}: {meaning}" if meaning else reason
-    return f"{said}; {what_it_is(data)}" if reason == "char" and b"\0" in data else said
-
-
-def what_it_is(data):
-    """What stands in a file that has a byte 0 and is no image."""
-    if data.startswith((archive.ARCHIVE, archive.THIN_ARCHIVE)):
-        return ARCHIVE
-    return CODE if kind_of(data) is Kind.CODE else NOTHING_ELSE
+    return said + OTHERS.get(kind_of(data), NOTHING_ELSE * (reason == "char" and b"\0" in data))
 
 
 # How what isn't run by itself is run.

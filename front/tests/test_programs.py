@@ -271,6 +271,25 @@ class Commands(Case):
                 if not name.endswith(".s") or word in ("orders", "loosen"):
                     self.assertEqual(self.ia64(word, name), (2, b"", said), word)
 
+    def test_an_archive(self):
+        """It is said to be one where a text or an image is wanted, as an object file is."""
+        member = example("functions.o").read_bytes()
+        head = "a.o/".ljust(48).encode() + str(len(member)).ljust(10).encode() + b"`\n"
+        (self.folder / "x.a").write_bytes(b"!<arch>\n" + head + member)
+        self.assertEqual(self.lines("check", "x.a")[:2][0], 1)
+        self.assertEqual(self.ia64("show", "x.a", "swap")[0], 0)
+        for words in (("run", "5"), ("groups", "5", "0"), ("trace",), ("orders",), ("stops",), ("loosen",)):
+            status, printed, said = self.ia64(*words, "x.a")
+            self.assertEqual((status, printed), (2, b""), words)
+            self.assertRegex(said, "^ia64: x.a: an archive, and no (program|text)[:;] `")
+        for word, said in (("build", "line 1: name: the leading word begins no line"), ("lift", "image: magic: it doesn't begin with IA64IMG1 "
+                                                                                      "or IA64IMG2, as an image does")):
+            self.assertEqual(self.ia64(word, "x.a")[::2], (
+                3, f"ia64: x.a: refused, {said}; it is an archive: `ia64 check FILE` takes it, and `ar x` takes out its members\n"))
+        (self.folder / "y.a").write_bytes(b"!<arch>\n" + 2 * (head + member))
+        said = "ia64: y.a: an archive of several files, and one is wanted: `ar x` takes out its members\n"
+        self.assertEqual(self.ia64("show", "y.a"), (2, b"", said))
+
     def test_as_a_program(self):
         with asked(PROGRAM):
             done = subprocess.run([sys.executable, FRONT, "run", "100", "-"], input=example("count.s").read_bytes(),
