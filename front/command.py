@@ -19,7 +19,7 @@ from front.judging import Judge
 from front.messages import counted
 from front.content import read_file, write_file
 from front.program import Program
-from front.refusals import OF_A_CALL, RefusedInput, said_of_run
+from front.refusals import OF_A_CALL, RefusedInput, at_lines, said_of_run
 
 # ---- Words -----------------------------------------------------------------------------------------------
 
@@ -231,12 +231,13 @@ def pack(options, program):
     those of bundles on no walk: no rule asks for a stop there."""
     from front import loosen
     data = read_text(options.file)
-    loose = without_bundles(options, program, data) if loosen.has_bundles(data) else data
-    return plain_answer(program, ["stops"], loose, options.file)
+    loose, numbers = without_bundles(options, program, data) if loosen.has_bundles(data) else (data, None)
+    return plain_answer(program, ["stops"], loose, options.file, numbers=numbers)
 
 
 def without_bundles(options, program, data):
-    """The instructions of a text with bundles, with the stops that are kept, and a note of those that no rule asks for."""
+    """The instructions of a text with bundles, with the stops that are kept, the numbers of their lines, and a note of stops that
+    no rule asks for."""
     from front import loosen, programs
     kept = () if options.keep_stops else programs.stops_off_walks(data, program)
     if kept is None:
@@ -245,7 +246,7 @@ def without_bundles(options, program, data):
     elif kept:
         complain(f"{options.file}: note: some bundles are on no walk: {counted(len(kept), 'stop')} there, the first in line "
                  f"{min(kept) + 1}, {'is' if len(kept) == 1 else 'are'} kept. A line `.entry NAME` makes what a label names an entry")
-    return loosen.loosened(data, options.keep_stops, kept or ())
+    return loosen.with_numbers(data, options.keep_stops, kept or ())
 
 
 def loosened(options, program):
@@ -253,7 +254,8 @@ def loosened(options, program):
     data = read_text(options.file)
     if b"\0" in data:  # which no text has: the program says where
         raise RefusedInput(program.call(["build"], data)[1], data)
-    put_out(without_bundles(options, program, data) if loosen.has_bundles(data) else loosen.loosened(data, options.keep_stops))
+    has_bundles = loosen.has_bundles(data)
+    put_out(without_bundles(options, program, data)[0] if has_bundles else loosen.loosened(data, options.keep_stops))
     return DONE
 
 
@@ -377,9 +379,12 @@ def plainly(options, program):
     return plain_answer(program, [options.command, *numbers], data, paths[0], options.output)
 
 
-def plain_answer(program, arguments, data, path, output=None):
-    """The program's own status on the input that a file has, with what it prints handed on."""
+def plain_answer(program, arguments, data, path, output=None, numbers=None):
+    """The program's own status on the input that a file has, with what it prints handed on. Where the input has others than the
+    lines of the file, `numbers` says which these are."""
     status, printed = program.raw(arguments, data)
+    if status == REFUSED and numbers:
+        printed = at_lines(printed, numbers)
     if output is not None and status == DONE:
         write_file(output, printed)
     else:

@@ -35,6 +35,13 @@ def directive_at(data, said):
     return line.split()[0] if line.startswith(".") else ""
 
 
+def at_lines(printed, numbers):
+    """A printed refusal of a text, by the lines of another one: these numbers have that of each line, and the first that is none
+    stands behind the last."""
+    found = re.fullmatch(rb"line (\d+)(: .*\n)", printed)
+    return b"line %d%s" % ([*numbers, numbers[-1] + 1][int(found[1]) - 1], found[2]) if found else printed
+
+
 class RefusedInput(Fault):
     """The program refuses a text or an image: what it prints, and that with what it means."""
 

@@ -271,6 +271,15 @@ class Commands(Case):
                 if not name.endswith(".s") or word in ("orders", "loosen"):
                     self.assertEqual(self.ia64(word, name), (2, b"", said), word)
 
+    def test_the_lines_of_a_text_that_is_packed(self):
+        """A refusal has the line of the file, also where the bundles of the text were taken out."""
+        text = b"// a text\n{ .mii\n  nop.m 0\n  nop.i 0\n  nop.i 0 ;;\n}\n{ .mii\n  add r8=r9,r10\n%s\n  nop.i 0\n}\n%s"
+        for said, more, line, reason in ((b"  foo r8", b"", 9, "name"), (b"  mf", b"x:\n", 13, "misplaced")):
+            (self.folder / "x.s").write_bytes(text % (said, more))
+            status, printed, error = self.ia64("stops", "x.s")
+            self.assertEqual((status, printed), (3, f"line {line}: {reason}\n".encode()))
+            self.assertIn(f"x.s: refused, line {line}: {reason}: ", error)
+
     def test_an_archive(self):
         """It is said to be one where a text or an image is wanted, as an object file is."""
         member = example("functions.o").read_bytes()
