@@ -5,17 +5,10 @@
 #
 # First it tries ./ia64 on the program that `rt ci` has built. Then it makes an outline of the repository with a stand-in for the
 # kit, and tries there what ./ia64 does without a program, and ./build. It prints a line for each try that fails, and a count.
-here=$(cd "$(dirname "$0")/.." && pwd)
-cd "$here" || exit 1
+. "$(dirname "$0")/tries.sh"
 program=$here/crates/ia64_cli/out/ia64_cli
-dir=$(mktemp -d)
-trap 'rm -rf "$dir"' EXIT
-passed=0 failed=0
-unset IA64_PROVED IA64_PROGRAM
 export TMPDIR=$dir/temporary XDG_CACHE_HOME=$dir/cache
 mkdir "$TMPDIR" "$XDG_CACHE_HOME"
-
-note() { if [ "$1" = 0 ]; then passed=$((passed + 1)); else failed=$((failed + 1)); echo "try_wrapper: $2"; fi; }
 
 # NAME STATUS OUTPUT SAYS INPUT CALL..: the call ends with the status, prints just the file OUTPUT, and says SAYS, an extended
 # regular expression, on standard error: nothing there at all where SAYS is empty.
@@ -340,5 +333,4 @@ PATH=$dir/no_rt built 'a built program without the kit' 0 "$dir/accepted" ''
 truncate -s -1 "$outline/crates/ia64_cli/out/ia64_cli"
 built 'half a program' 125 "$dir/nothing" 'not built from the sources as they are'
 
-echo "try_wrapper: $passed passed, $failed failed"
-[ "$failed" = 0 ]
+counted
