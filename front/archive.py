@@ -12,6 +12,10 @@ SYMBOL_TABLES = (b"/", b"/SYM64/", b"__.SYMDEF", b"__.SYMDEF SORTED", b"__.SYMDE
 HEAD = 60
 
 
+def is_archive(data):
+    return data.startswith((ARCHIVE, THIN_ARCHIVE))
+
+
 def members(path, data):
     """The names and the bytes of an archive's members, in order. Where a thin archive's member can't be read, its
     Fault stands in place of the bytes."""

@@ -19,6 +19,7 @@ from front.judging import Judge
 from front.messages import counted
 from front.content import read_file, write_file
 from front.program import Program
+from front.refusals import OF_A_CALL, RefusedInput, at_lines, said_of_run
 
 # ---- Words -----------------------------------------------------------------------------------------------
 
@@ -91,7 +92,7 @@ def draw_options(parser):
                         help=f"in a page of a program that runs, at most N groups of its run, which can be stepped through: by "
                              f"default {usage.TRACE_LIMIT}, which is the most, and 0 leaves the run out")
     add_code_options(parser)
-    parser.set_defaults(run=draw, misused=parser.error)
+    parser.set_defaults(run=draw, misused=parser.misused)
 
 
 def picture_path(text):
@@ -124,13 +125,13 @@ def orders_options(parser):
     parser.add_argument("--seed", type=between(0, usage.NUMBER_LIMIT), default=1, metavar="S",
                         help="of the random orders, by default 1")
     parser.add_argument("--all", action="store_true", help=f"all lines that differ, and not the first {lines.LINES} alone")
-    parser.set_defaults(run=run_orders, misused=parser.error)
+    parser.set_defaults(run=run_orders, misused=parser.misused)
 
 
 def trace_options(parser):
     from front.tracing import command
     command.add_options(parser, between)
-    parser.set_defaults(run=run_trace, misused=parser.error)
+    parser.set_defaults(run=run_trace, misused=parser.misused)
 
 
 def call_options(parser):
@@ -145,7 +146,7 @@ def plain_options(parser):
     parser.add_argument("arguments", nargs="*", metavar=f"{numbers} FILE".strip(),
                        help=f"{usage.TAKES[command]}, in any order" if numbers else "what the command takes on standard input")
     parser.add_argument("-o", "--output", metavar="PATH", help="where the answer goes, in place of standard output")
-    parser.set_defaults(run=plainly, misused=parser.error)
+    parser.set_defaults(run=plainly, misused=parser.misused)
 
 
 # ---- Commands --------------------------------------------------------------------------------------------
@@ -159,7 +160,7 @@ def show(options, program):
         return show_functions(file, options, program)
     if options.functions:
         raise Fault("a program, which has no functions with names")
-    return plain_answer(program, [options.command], file.data)
+    return plain_answer(program, [options.command], file.data, options.file)
 
 
 def built(file, options, program):
@@ -168,7 +169,7 @@ def built(file, options, program):
     if status == 0:
         return files.File(file.label, file.path, Kind.IMAGE, printed)
     if not files.is_source(options.file):
-        raise Fault(f"refused, {printed.decode('latin-1').strip()}")
+        raise RefusedInput(printed.decode("latin-1"), file.data)
     if not gnu.installed("as"):
         return read_source(file, options, program)
 
@@ -203,7 +204,7 @@ def show_functions(file, options, program):
 def one_file(path, syscalls=False):
     found = list(itertools.islice(files.items(path), 2))
     if len(found) != 1:
-        raise Fault("an archive, and one file is wanted")
+        raise Fault(f"an archive of {'several files' if found else 'no file'}, and one is wanted: `ar x` takes out its members")
     file = found[0].read(syscalls)
     if file.fault is not None:
         raise Fault(file.fault)
@@ -211,10 +212,18 @@ def one_file(path, syscalls=False):
 
 
 def read_text(path):
+    """The bytes of a text that is to be packed."""
     data = read_file(path)
-    if data and files.kind_of(data) is not Kind.TEXT:
-        raise Fault("no text")
+    kind = files.kind_of(data)
+    if kind in NO_TEXTS:
+        raise Fault(NO_TEXTS[kind])
     return data
+
+
+# What is said of files that are no texts.
+NO_TEXTS = {Kind.IMAGE: "an image, and no text: `ia64 show FILE` prints its text",
+            Kind.CODE: "an object file or a linked one, and no text: `ia64 show FILE FUNCTION` prints that of a function",
+            Kind.ARCHIVE: "an archive, and no text: `ar x FILE` takes out its members"}
 
 
 def pack(options, program):
@@ -222,11 +231,13 @@ def pack(options, program):
     those of bundles on no walk: no rule asks for a stop there."""
     from front import loosen
     data = read_text(options.file)
-    return plain_answer(program, ["stops"], without_bundles(options, program, data) if loosen.has_bundles(data) else data)
+    loose, numbers = without_bundles(options, program, data) if loosen.has_bundles(data) else (data, None)
+    return plain_answer(program, ["stops"], loose, options.file, numbers=numbers)
 
 
 def without_bundles(options, program, data):
-    """The instructions of a text with bundles, with the stops that are kept, and a note of those that no rule asks for."""
+    """The instructions of a text with bundles, with the stops that are kept, the numbers of their lines, and a note of stops that
+    no rule asks for."""
     from front import loosen, programs
     kept = () if options.keep_stops else programs.stops_off_walks(data, program)
     if kept is None:
@@ -235,33 +246,27 @@ def without_bundles(options, program, data):
     elif kept:
         complain(f"{options.file}: note: some bundles are on no walk: {counted(len(kept), 'stop')} there, the first in line "
                  f"{min(kept) + 1}, {'is' if len(kept) == 1 else 'are'} kept. A line `.entry NAME` makes what a label names an entry")
-    return loosen.loosened(data, options.keep_stops, kept or ())
+    return loosen.with_numbers(data, options.keep_stops, kept or ())
 
 
 def loosened(options, program):
     from front import loosen
     data = read_text(options.file)
-    left = without_bundles(options, program, data) if loosen.has_bundles(data) else loosen.loosened(data, options.keep_stops)
-    sys.stdout.flush()
-    sys.stdout.buffer.write(left)
+    if b"\0" in data:  # which no text has: the program says where
+        raise RefusedInput(program.call(["build"], data)[1], data)
+    has_bundles = loosen.has_bundles(data)
+    put_out(without_bundles(options, program, data)[0] if has_bundles else loosen.loosened(data, options.keep_stops))
     return DONE
 
 
 def read_program(path):
     """The bytes of a text or an image that is to be run."""
     data = read_file(path)
-    if files.kind_of(data) is Kind.CODE:
-        raise Fault(f"an object file or a linked one, and no program; {OF_A_CALL}")
+    kind = files.kind_of(data)
+    if kind in (Kind.CODE, Kind.ARCHIVE):
+        what = "an object file or a linked one" if kind is Kind.CODE else "an archive"
+        raise Fault(f"{what}, and no program; {OF_A_CALL}")
     return data
-
-
-def said_of_source(path, data, refusal):
-    """What there is to say of a refused text that is a source for the GNU assembler, as its name and a directive tell that no
-    text has."""
-    from front import programs
-    is_source = files.is_source(path) and refusal.endswith(": name")
-    directive = programs.directive_at(data, refusal) if is_source else ""
-    return f"'{printable(directive)}' is of a source for the GNU assembler; {OF_A_CALL}" if directive else ""
 
 
 def run_orders(options, program):
@@ -273,9 +278,8 @@ def run_orders(options, program):
     data = read_program(options.file)
     try:
         return print_orders(options, program, data)
-    except Fault as fault:
-        said = said_of_source(options.file, data, str(fault))
-        raise Fault(f"{fault}: {said}" if said else str(fault)) from None
+    except RefusedInput as refusal:
+        raise Fault(said_of_run(refusal, data, files.is_source(options.file))) from None
 
 
 def run_trace(options, program):
@@ -289,8 +293,8 @@ def run_trace(options, program):
     if status == DONE:
         return command.trace(options, program, data)
     if status == 1:
-        complain(f"a program with violations isn't run: ia64 orders {options.file} shows what its groups may do")
-    return plain_answer(program, ["trace", "0", "1"], data, path=options.file)
+        complain(f"{options.file}: violated, and so it isn't run: `ia64 orders {options.file}` shows what its groups may do")
+    return plain_answer(program, ["trace", "0", "1"], data, options.file)
 
 
 def print_orders(options, program, data):
@@ -319,8 +323,7 @@ def draw(options, program):
     if options.output:
         write_file(options.output, picture.encode())
     else:
-        sys.stdout.flush()
-        sys.stdout.buffer.write(picture.encode())
+        put_out(picture.encode())
     return DONE
 
 
@@ -370,40 +373,41 @@ def plainly(options, program):
     """A command as on standard input, of a file. The numbers and the file come in any order."""
     numbers, paths = usage.parted(options.command, options.arguments)
     if len(paths) != 1 or not usage.are_numbers(options.command, numbers):
-        takes = f"'{options.command}' takes {usage.TAKES[options.command]}"
-        options.misused(f"{takes}: {usage.right_call(options.command, options.arguments)}")
+        options.misused(f"it takes {usage.TAKES[options.command]}: {usage.right_call(options.command, options.arguments)}")
     options.file = paths[0]
     data = read_program(paths[0]) if options.command in usage.LIMITS else read_file(paths[0])
-    return plain_answer(program, [options.command, *numbers], data, options.output, paths[0])
+    return plain_answer(program, [options.command, *numbers], data, paths[0], options.output)
 
 
-def plain_answer(program, arguments, data, output=None, path=""):
-    """The program's own status on an input, with what it prints handed on."""
+def plain_answer(program, arguments, data, path, output=None, numbers=None):
+    """The program's own status on the input that a file has, with what it prints handed on. Where the input has others than the
+    lines of the file, `numbers` says which these are."""
     status, printed = program.raw(arguments, data)
-    if output is not None and status == 0:
+    if status == REFUSED and numbers:
+        printed = at_lines(printed, numbers)
+    if output is not None and status == DONE:
         write_file(output, printed)
     else:
-        sys.stdout.flush()
-        sys.stdout.buffer.write(printed)
-    if status in SAID:
-        complain(SAID[status].format(arguments[0]))
-    if status == 3 and arguments[0] in (*usage.LIMITS, "trace"):
-        said = said_of_source(path, data, printed.decode("latin-1").strip())
-        if said:
-            complain(f"{path}: {said}")
+        put_out(printed)
+    if status == REFUSED:
+        is_source = arguments[0] in (*usage.LIMITS, "trace") and files.is_source(path)
+        complain(f"{path}: {said_of_run(RefusedInput(printed.decode('latin-1'), data), data, is_source)}")
+    elif status in SAID:
+        complain(f"{path}: {SAID[status]}")
     return status
+
+
+def put_out(data):
+    """Puts bytes on standard output, behind the lines that are there."""
+    sys.stdout.flush()
+    sys.stdout.buffer.write(data)
 
 
 # So many functions are drawn without a name, and so many names are told of those that a file has.
 MOST_FIGURES, MOST_NAMES = 10, 20
 
-# How what isn't run by itself is run.
-OF_A_CALL = "`ia64 call FILE FUNCTION --image PATH` makes an image of a call, which run, watch, groups, trace and orders take"
-
-# What a status of the program means that prints nothing, or not all.
-SAID = {3: "'{}' refused its input; the reason went to standard output",
-        4: "the input is longer than 16,777,216 bytes; nothing was written",
-        7: "out of memory; nothing was written"}
+# What a status of the program means: that of a refusal, and those that print nothing.
+REFUSED, SAID = 3, {4: files.TOO_LONG_SAID, 7: "the program ran out of memory"}
 
 
 # ---- The commands by their words -------------------------------------------------------------------------
@@ -428,10 +432,20 @@ COMMANDS = {
 
 
 class Parser(argparse.ArgumentParser):
-    """The library's, which passes over an output that fails."""
+    """The library's, which passes over an output that fails, and says on one line what is wrong with words."""
 
     def print_help(self, file=None):
         (file or sys.stdout).write(self.format_help())
+
+    def error(self, message):
+        """What the library finds wrong with the words of a command."""
+        missing = re.sub(r"^the following arguments are required: (.*)", r"\1 is missing", message)
+        self.misused(f"{missing}; `{self.prog} --help` says what it takes")
+
+    def misused(self, message):
+        """Ends a call with wrong words."""
+        complain(f"{self.prog.split()[1]}: {message}")
+        sys.exit(WRONG)
 
 
 def parser_of(name):
@@ -449,14 +463,11 @@ WRAPPER = Path(__file__).resolve().parent.parent / "ia64"
 
 
 def find_program():
-    """The path of the program that is asked: that which the environment names, of which nothing is known to be proved, or that
-    which `./ia64` answers with."""
+    """The path of the program that is asked: that with which `./ia64` answers. It is the one that the environment names, unless
+    that wants a proved one; this isn't asked for, to be fast."""
     path = os.environ.get("IA64_PROGRAM")
     if path and os.environ.get("IA64_PROVED", "0") in ("", "0"):
         return path
-    if path:
-        complain("IA64_PROGRAM names a program of which nothing is known to be proved, and IA64_PROVED wants a proved one")
-        raise NoProgram(125)
     done = subprocess.run([WRAPPER, "--program"], stdin=subprocess.DEVNULL, stdout=subprocess.PIPE, check=False)
     if done.returncode != 0:
         raise NoProgram(done.returncode)
@@ -500,7 +511,7 @@ def main(arguments=None):
         options = parser_of(arguments[0]).parse_args(arguments[1:])
         return options.run(options, Program(find_program))
     except Fault as fault:
-        complain(f"{getattr(options, 'file', arguments[0])}: {fault}")
+        complain(f"{fault.path or getattr(options, 'file', arguments[0])}: {fault}")
     except ProgramFault as fault:
         complain(str(fault))
     except NoProgram as none:
@@ -511,7 +522,7 @@ def main(arguments=None):
 
 
 def closed_output():
-    complain("standard output is closed")
+    complain("standard output: it is closed")
     return WRONG
 
 
@@ -537,7 +548,7 @@ def run():
     except BrokenPipeError:
         os.dup2(os.open(os.devnull, os.O_WRONLY), sys.stdout.fileno())
     except OSError as fault:
-        complain(f"the lines can't be written: {fault.strerror}")
+        complain(f"standard output: it can't be written: {fault.strerror}")
         os.dup2(os.open(os.devnull, os.O_WRONLY), sys.stdout.fileno())
     except KeyboardInterrupt:
         return 130

@@ -99,4 +99,4 @@ def write_file(path, data):
     try:
         Path(path).write_bytes(data)
     except OSError as fault:
-        raise Fault(f"{path} can't be written: {fault.strerror}") from None
+        raise Fault(f"it can't be written: {fault.strerror}", printable(path)) from None

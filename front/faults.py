@@ -4,7 +4,11 @@ from typing import NamedTuple
 
 
 class Fault(Exception):
-    """Why a file can't be read."""
+    """Why a file can't be read; or another than the one that is read, by its path, can't be written."""
+
+    def __init__(self, said, path=""):
+        super().__init__(said)
+        self.path = path
 
 
 class Why(NamedTuple):

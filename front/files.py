@@ -15,10 +15,12 @@ from front.ties import cut_ties
 IMAGES = (b"IA64IMG1", b"IA64IMG2")
 # How many bytes the proved program takes.
 LONGEST_INPUT = 16_777_216
+TOO_LONG_SAID = f"longer than {LONGEST_INPUT:,} bytes, the most that a text or an image may have"
 
 
 class Kind(Enum):
     CODE = "code"                      # an object file, a linked program or a shared library
+    ARCHIVE = "archive"
     IMAGE = "image"                    # of the proved program
     TEXT = "text"                      # of the proved program, or a source for the GNU assembler
 
@@ -36,12 +38,14 @@ class File:
 
 
 def kind_of(data):
-    """What stands in a file, or None."""
+    """What stands in a file, or None in an empty one. What is nothing else is a text: the program says why it is none."""
     if data.startswith(elf.MAGIC) or pe.is_pe(data):
         return Kind.CODE
     if data.startswith(IMAGES):
         return Kind.IMAGE
-    return None if b"\0" in data[:4096] or not data else Kind.TEXT
+    if archive.is_archive(data):
+        return Kind.ARCHIVE
+    return Kind.TEXT if data else None
 
 
 def read_code(label, path, data, syscalls):
@@ -66,10 +70,11 @@ def read_member(label, path, data, syscalls):
     if kind is Kind.CODE:
         return read_code(label, path, data, syscalls)
     if kind is None:
-        said = "neither code for Itanium, nor an archive of it, nor an image, nor a text" if data else "empty"
-        return File(label, path, fault=said)
+        return File(label, path, fault="empty")
+    if kind is Kind.ARCHIVE:
+        return File(label, path, fault="an archive in an archive, which isn't read")
     if len(data) > LONGEST_INPUT:
-        return File(label, path, kind, fault=f"longer than {LONGEST_INPUT:,} bytes")
+        return File(label, path, kind, fault=TOO_LONG_SAID)
     return File(label, path, kind, data)
 
 
@@ -91,7 +96,7 @@ def items(path):
     label = printable(path)
     try:
         with opened(path) as data:
-            if data[:len(archive.ARCHIVE)] not in (archive.ARCHIVE, archive.THIN_ARCHIVE):
+            if not archive.is_archive(data[:len(archive.ARCHIVE)]):
                 yield Item(path, label, data[:])
                 return
             for name, body in archive.members(path, data):

@@ -31,6 +31,7 @@ class Function:
     faults: List[Why] = field(default_factory=list)              # why it isn't judged
     bundles: List[Bundle] = field(default_factory=list)          # its branches settled
     code: bytearray = field(default_factory=bytearray)           # the same as bytes
+    given: Dict[int, Bundle] = field(default_factory=dict)       # of bundles that were replaced those of the file
     entries: Dict[int, str] = field(default_factory=dict)        # declared ones: the bundle, and why it is one
     outside: Dict[Tuple[int, int], str] = field(default_factory=dict)   # slots that lead out of it, and where to
     texts: Dict[Tuple[int, int], str] = field(default_factory=dict)     # of slots outside the profile, where a source has them
@@ -46,11 +47,16 @@ class Function:
         return len(self.bundles)
 
     def replace(self, index, bundle):
+        self.given.setdefault(index, self.bundles[index])
         self.bundles[index] = bundle
         self.code[16 * index:16 * index + 16] = bundle.packed()
 
     def offset(self, bundle):
         return self.start + 16 * bundle
+
+    def outside_name(self, index, slot):
+        """The name of what a slot leads to outside of it."""
+        return self.outside.get((index, slot), "outside")
 
 
 class Functions:

@@ -1,10 +1,10 @@
 """The verdict on each function, asked of the proved program."""
 
-from dataclasses import dataclass, field
+from dataclasses import dataclass, field, replace
 from typing import Dict, List, NamedTuple, Optional, Tuple
 
 from front import flow, riding, stand_ins, ways
-from front.bundle import NOPS, Bundle, split
+from front.bundle import NOPS, Bundle, branches, split, with_branch
 from front.faults import Why
 from front.functions import MOST_BUNDLES, Function
 from front.program import Broken, Refusal, batches, image
@@ -77,6 +77,7 @@ class Verdict:
     excused: List[Violation] = field(default_factory=list)       # pairs that predicates excuse, where they are wanted
     texts: Optional[List[List[str]]] = None                      # of its slots, where they are wanted
     unread: List[Tuple[int, int]] = field(default_factory=list)  # then the slots whose texts the program doesn't give
+    refusal: Optional[Why] = None                                # and why it refuses the function, beside these slots
     off_walks: List[int] = field(default_factory=list)           # its bundles that are on no walk
     falls_out: bool = False                                      # whether a walk falls out of its end
     indirect: List[Tuple[int, int]] = field(default_factory=list)   # its indirect branches
@@ -242,15 +243,17 @@ class Judge:
         if unknown:
             self.add_unknown(verdict, (piece.position(*position) for position in unknown))
             return
+        verdict.faults.append(self.why_refused(piece, refusal))
+
+    @staticmethod
+    def why_refused(piece, refusal):
+        """Why the program refuses a piece, beside instructions outside the profile."""
         position = piece.position(refusal.bundle, refusal.slot or 0)
-        offset = verdict.function.offset(position[0])
-        slot = "" if refusal.slot is None else f" slot {position[1]}"
+        place = f"{piece.function.offset(position[0]):+#x}" + (f" slot {position[1]}" if refusal.slot is not None else "")
         if refusal.why == "long run":
-            said = "more than 192 slots without a stop"
-            verdict.faults.append(Why(said, f"{said}, up to {offset:+#x}{slot}"))
-        else:
-            said = f"the program refuses it, {refusal.why}"
-            verdict.faults.append(Why(said, f"{said}, at {offset:+#x}{slot}"))
+            return Why("more than 192 slots without a stop", f"more than 192 slots without a stop, up to {place}")
+        said = f"the program refuses it, {refusal.why}"
+        return Why(said, f"{said}, at {place}")
 
     def unknown_slots(self, code, entries, left_out, refusal=None):
         """The slots of bundles that the program doesn't take, beside those that are left out, as far as they are looked for,
@@ -285,9 +288,25 @@ class Judge:
     def list_texts(self, verdicts):
         """Fills in the texts of functions' slots, as the program lists them. Those of instructions that it doesn't take are
         None, and `unread` has their places."""
-        rows = [(verdict, self.listed_piece(verdict, outside_slots(verdict))) for verdict in verdicts if verdict.function.count]
-        for batch in batches(rows, size_of):
+        short = [verdict for verdict in verdicts if 0 < verdict.function.count < MOST_BUNDLES]
+        for batch in batches([(verdict, self.listed_piece(verdict, outside_slots(verdict))) for verdict in short], size_of):
             self.ask_all(batch, "list", self.ask_texts, self.take_texts, self.list_alone)
+        for verdict in verdicts:
+            if verdict.function.count >= MOST_BUNDLES:
+                self.list_in_parts(verdict)
+
+    def list_in_parts(self, verdict):
+        """The same of a function that no image has room for, so many bundles at a time. Its branches lead nowhere there: a text
+        and what it leads to are told apart."""
+        verdict.texts, verdict.unread, outside = [], [], outside_slots(verdict)
+        for first in range(0, verdict.function.count, MOST_BUNDLES - 1):
+            bundles = list(map(without_targets, verdict.function.bundles[first:first + MOST_BUNDLES - 1]))
+            code = bytearray(b"".join(bundle.packed() for bundle in bundles))
+            part = Verdict(replace(verdict.function, start=verdict.function.offset(first), bundles=bundles, code=code))
+            part.unlisted = [Unlisted(index - first, slot, "") for index, slot in outside if 0 <= index - first < len(bundles)]
+            self.list_texts([part])
+            verdict.texts += part.texts or [[None] * len(bundle.units) for bundle in bundles]
+            verdict.unread += [(first + index, slot) for index, slot in part.unread]
 
     @staticmethod
     def listed_piece(verdict, unread):
@@ -309,12 +328,16 @@ class Judge:
 
     def list_alone(self, verdict, piece, refusal):
         """The texts of a function that the program refuses, without the slots that it doesn't take. Where it is refused for
-        another reason too, there are none."""
+        another reason too, as a long run, they are asked for with a stop behind each bundle."""
         unknown, _ = self.unknown_slots(piece.code, [], set(), refusal)
-        batch = [(verdict, self.listed_piece(verdict, outside_slots(verdict) | unknown))]
-        rows = self.ask_texts(batch)
+        alone = self.listed_piece(verdict, outside_slots(verdict) | unknown)
+        rows = self.ask_texts([(verdict, alone)])
+        if isinstance(rows, Refusal):
+            verdict.refusal = self.why_refused(alone, rows)
+            alone.code = with_stops(alone.code)
+            rows = self.ask_texts([(verdict, alone)])
         if not isinstance(rows, Refusal):
-            self.take_texts(batch, rows, unknown)
+            self.take_texts([(verdict, alone)], rows, unknown)
 
 
 def size_of(row):
@@ -340,6 +363,20 @@ def without_slots(code, positions):
                 bundle = bundle.with_word(2, NOPS["x"])
         read[16 * index:16 * index + 16] = bundle.packed()
     return bytes(read)
+
+
+def without_targets(bundle):
+    """A bundle each of whose direct branches and checks leads to the bundle itself."""
+    for slot, _ in branches(bundle):
+        bundle = with_branch(bundle, slot, 0)
+    return bundle
+
+
+def with_stops(code):
+    """Bundles with a stop behind each, where they have none: the lowest bit of a template is that of the stop."""
+    stopped = bytearray(code)
+    stopped[::16] = bytes(byte | 1 for byte in stopped[::16])
+    return bytes(stopped)
 
 
 def owner(batch, bundle):

@@ -142,7 +142,13 @@ def has_bundles(data):
 
 def loosened(data, keeps_stops=False, kept_lines=()):
     """What is left of the bytes of a text: of its stops all, or those on the lines of these numbers, from 0."""
+    return with_numbers(data, keeps_stops, kept_lines)[0]
+
+
+def with_numbers(data, keeps_stops=False, kept_lines=()):
+    """The same, and of each of its lines the number, from 1, of the line that it comes of."""
     left = Loosened(keeps_stops, kept_lines)
     for line in lines_of_text(data):
         left.add(line)
-    return "".join(f"{line}\n" for line in left.lines()).encode("latin-1")
+    text = "".join(f"{line}\n" for line in left.lines()).encode("latin-1")
+    return text, [number for number, lines in enumerate(left.left, 1) for _ in lines]

@@ -35,31 +35,39 @@ class Texts:
 
     def __init__(self, verdict, further):
         self.verdict, self.further = verdict, further
+        self.last = None, {}
 
     def bundle(self, index):
         return self.verdict.function.bundles[index]
 
-    def text(self, position):
-        """A slot's text, with its target as an offset or as the name of what is there."""
+    def text(self, position, named=None):
+        """A slot's text, with its target as an offset or as the name of what is there; or by `named`, which gives the name of
+        the target of a slot, the bundle with this number from the function's start."""
         index, slot = position
         texts = self.verdict.texts
         own = texts[index][slot] if texts and slot < len(texts[index]) else None
         own = own or self.verdict.function.texts.get(position)
         bundle = self.bundle(index)
         text = own or self.further.get((bundle, slot)) or f"word {bundle.words[2 if bundle.units[slot] == 'l' else slot]:#013x}"
-        return self.with_target(text, index, slot, bundle, own is not None)
-
-    def with_target(self, text, index, slot, bundle, is_own):
-        target = dict(branches(bundle)).get(slot)
+        target = self.targets(index).get(slot)
         if target is None or text.startswith("word "):
             return text
-        function = self.verdict.function
-        inside = 0 <= index + target < function.count
-        name = f"{function.offset(index + target):+#x}" if inside else function.outside.get((index, slot), "outside")
-        if is_own:
+        name = named(slot, index + target) if named else self.target(index, slot, index + target)
+        if own:
             return text[:text.rindex("L")] + name
         mark = f"{16 * target:+#x}"
         return text.replace(mark, name, 1) if text.endswith(mark) or f"{mark}," in text else text
+
+    def targets(self, index):
+        """By slots, where a bundle's branches lead to, in bundles. One bundle after the other is asked for."""
+        if self.last[0] != index:
+            self.last = index, dict(branches(self.bundle(index)))
+        return self.last[1]
+
+    def target(self, index, slot, to):
+        """The target of a slot, a bundle from the function's start: its offset, or the name of what is outside."""
+        function = self.verdict.function
+        return f"{function.offset(to):+#x}" if 0 <= to < function.count else function.outside_name(index, slot)
 
 
 def wanted_texts(verdict, verbose):

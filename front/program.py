@@ -10,8 +10,9 @@ from front.faults import ProgramFault
 from front.functions import MOST_BUNDLES, MOST_ENTRIES
 from front.rules import RULES
 
-# Behind each function: `break.m 0`, two nops and a stop.
+# Behind each function: `break.m 0`, two nops and a stop. And the lines of its text.
 END = Bundle(0x01, (0, NOPS["i"], NOPS["i"]))
+END_LINES = ("{ .mii", "  break.m 0x0", "  nop.i 0x0", "  nop.i 0x0 ;;", "}")
 
 
 def image(pieces):

@@ -13,9 +13,10 @@ from front.functions import Function
 from front.gnu import Source
 from front.judging import ACCEPTED, VIOLATED
 from front.program import END, Refusal
+from front.refusals import REFUSAL_OF_TEXT, RefusedInput, directive_at, explained
 from front.reports import Answer, Finding
 from front.rules import RULES
-from front.texts import REASONS, lines_of_text, parts_of, slots_of_text, without_stop
+from front.texts import lines_of_text, parts_of, slots_of_text, without_stop
 from front.messages import Severity, counted
 
 
@@ -58,23 +59,12 @@ def refused(file, said):
     """The refusal of a text or an image, in the program's words and in more."""
     found = re.fullmatch(REFUSAL_OF_TEXT, said)
     if found:
-        meaning = f": {REASONS[found[2]]}" if found[2] in REASONS else ""
-        finding = Finding(Severity.ERROR, Source(file.label, int(found[1])), "", "", f"refused, {found[2]}{meaning}", "refused")
+        finding = Finding(Severity.ERROR, Source(file.label, int(found[1])), "", "",
+                          f"refused, {explained(found[2], file.data)}", "refused")
     else:
-        finding = Finding(Severity.ERROR, None, file.label, "", f"refused, {said}", "refused")
+        finding = Finding(Severity.ERROR, None, file.label, "", str(RefusedInput(said, file.data)), "refused")
     file.fault = said
     return Refused(Answer(file, [], [finding], {}, {}), bool(directive_at(file.data, said)), int(found[1]) if found else 0)
-
-
-REFUSAL_OF_TEXT = r"line (\d+): (.*)"
-
-
-def directive_at(data, said):
-    """The directive at which the program refuses a text, and nothing where it is none that is refused."""
-    found = re.fullmatch(REFUSAL_OF_TEXT, said)
-    lines = lines_of_text(data) if found else []
-    line = lines[int(found[1]) - 1].lstrip() if found and int(found[1]) <= len(lines) else ""
-    return line.split()[0] if line.startswith(".") else ""
 
 
 def not_assembled(file, lines):

@@ -19,7 +19,7 @@ assembler.
   list FILE [FUNCTION..]
                   the bundles of functions, or of a program, with their bytes
   show FILE [FUNCTION..]
-                  a listing of functions, or the text of a program
+                  the text of functions, or of a program
   stops FILE      the text of the program into which the instructions of a text are packed, with the stops that they need
   loosen FILE     the instructions of a text, without its bundles and stops
   draw FILE [FUNCTION..] -o x.svg
@@ -113,7 +113,10 @@ def explained(arguments, commands):
     if not arguments:
         return ["a command is missing"]
     if arguments[0] == "trial":
-        return [f"'trial' takes {TRIAL}: {right_call('trial')}"]
+        return [f"trial: it takes {TRIAL}: {right_call('trial')}"]
     meant = re.sub(r".*-", "", arguments[0]).lower()
-    perhaps = [f"perhaps: {right_call(meant, arguments[1:])}"] if meant in (*commands, "trial") else []
+    if meant in (*commands, "trial"):
+        perhaps = [f"perhaps: {right_call(meant, arguments[1:])}"]
+    else:
+        perhaps = [f"perhaps: ia64 check {arguments[0]}"] * os.path.exists(arguments[0])
     return [f"no command '{arguments[0]}'", *perhaps]

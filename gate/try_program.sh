@@ -4,14 +4,8 @@
 #   gate/try_program.sh
 #
 # `rt ci` builds the program. It prints a line for each try that fails, and a count.
-here=$(cd "$(dirname "$0")/.." && pwd)
-cd "$here" || exit 1
+. "$(dirname "$0")/tries.sh"
 program=$here/crates/ia64_cli/out/ia64_cli
-dir=$(mktemp -d)
-trap 'rm -rf "$dir"' EXIT
-passed=0 failed=0
-
-note() { if [ "$1" = 0 ]; then passed=$((passed + 1)); else failed=$((failed + 1)); echo "try_program: $2"; fi; }
 
 # NAME STATUS WANTED INPUT WORD..: the program on the input ends with the status and writes just these bytes.
 try() {
@@ -794,5 +788,4 @@ note $(($? != 6)) "write_fault, watched: another status than 6"
 "$program" stops < examples/loose.s > /dev/full 2> /dev/null
 note $(($? != 6)) "write_fault, stops: another status than 6"
 
-echo "try_program: $passed passed, $failed failed"
-[ "$failed" = 0 ]
+counted

@@ -744,7 +744,8 @@ cat "$OUTLINE/output" 2> /dev/null
         self.standing_in("rt", self.RT)
         self.environment = {**os.environ, "PATH": f"{self.outline}:{os.environ['PATH']}", "TMPDIR": str(self.temporary),
                             "PROGRAM": PROGRAM, "OUTLINE": str(self.outline), "XDG_CACHE_HOME": str(self.folder / "cache")}
-        self.environment.pop("IA64_PROVED", None)
+        for name in "IA64_PROVED", "IA64_PROGRAM":
+            self.environment.pop(name, None)
         self.compiled = kept / "-".join(["program", *self.summed().split()])
 
     def standing_in(self, name, script):

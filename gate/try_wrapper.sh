@@ -5,17 +5,10 @@
 #
 # First it tries ./ia64 on the program that `rt ci` has built. Then it makes an outline of the repository with a stand-in for the
 # kit, and tries there what ./ia64 does without a program, and ./build. It prints a line for each try that fails, and a count.
-here=$(cd "$(dirname "$0")/.." && pwd)
-cd "$here" || exit 1
+. "$(dirname "$0")/tries.sh"
 program=$here/crates/ia64_cli/out/ia64_cli
-dir=$(mktemp -d)
-trap 'rm -rf "$dir"' EXIT
-passed=0 failed=0
-unset IA64_PROVED IA64_PROGRAM
 export TMPDIR=$dir/temporary XDG_CACHE_HOME=$dir/cache
 mkdir "$TMPDIR" "$XDG_CACHE_HOME"
-
-note() { if [ "$1" = 0 ]; then passed=$((passed + 1)); else failed=$((failed + 1)); echo "try_wrapper: $2"; fi; }
 
 # NAME STATUS OUTPUT SAYS INPUT CALL..: the call ends with the status, prints just the file OUTPUT, and says SAYS, an extended
 # regular expression, on standard error: nothing there at all where SAYS is empty.
@@ -105,15 +98,15 @@ note $? 'an object file'
 try 'no words' 2 "$dir/nothing" 'a command is missing' /dev/null ./ia64
 try 'run without a number' 2 "$dir/nothing" 'ia64 run 100 FILE' /dev/null ./ia64 run
 try 'run of too many groups' 2 "$dir/nothing" 'ia64 run 10000000 FILE' /dev/null ./ia64 run 99999999999999999999
-try 'watch without a number' 2 "$dir/nothing" "'watch' takes one number.*: ia64 watch 100 FILE" /dev/null ./ia64 watch
+try 'watch without a number' 2 "$dir/nothing" 'watch: it takes one number.*: ia64 watch 100 FILE' /dev/null ./ia64 watch
 try 'watch of too many groups' 2 "$dir/nothing" 'ia64 watch 10000000 FILE' /dev/null ./ia64 watch 10000001
 try 'a trial without bundles' 2 "$dir/nothing" 'ia64 trial 1 100' /dev/null ./ia64 trial 7 0
-try 'groups without an order' 2 "$dir/nothing" "'groups' takes two numbers.*: ia64 groups 7 0 FILE" /dev/null ./ia64 groups 7
+try 'groups without an order' 2 "$dir/nothing" 'groups: it takes two numbers.*: ia64 groups 7 0 FILE' /dev/null ./ia64 groups 7
 try 'groups with too large an order' 2 "$dir/nothing" ': ia64 groups 100 0 FILE' /dev/null ./ia64 groups 100 18446744073709551616
 try 'too many groups, with the last order' 2 "$dir/nothing" 'ia64 groups 10000000 18446744073709551615 FILE' /dev/null ./ia64 groups 10000001 18446744073709551615
 try 'no groups, with an order' 2 "$dir/nothing" 'ia64 groups 100 7 FILE' /dev/null ./ia64 groups 0 7
 try 'a third number' 2 "$dir/nothing" 'ia64 groups 5 6 FILE' /dev/null ./ia64 groups 5 6 7
-try 'too many groups to trace' 2 "$dir/nothing" "'trace' takes a file.*: ia64 trace FILE 20, or ia64 trace 0 20 < FILE" /dev/null ./ia64 trace 0 101
+try 'too many groups to trace' 2 "$dir/nothing" 'trace: it takes a file.*: ia64 trace FILE 20, or ia64 trace 0 20 < FILE' /dev/null ./ia64 trace 0 101
 try 'upper case' 2 "$dir/nothing" 'perhaps: ia64 check examples/count.s' /dev/null ./ia64 Check examples/count.s
 try 'stops in upper case' 2 "$dir/nothing" 'perhaps: ia64 stops FILE' /dev/null ./ia64 Stops
 try 'upper case before a number' 2 "$dir/nothing" 'perhaps: ia64 watch 7 examples/count.s' /dev/null ./ia64 --Watch 7 examples/count.s
@@ -130,6 +123,11 @@ try 'a folder' 5 "$dir/nothing" 'reading standard input failed' "$dir" ./ia64 ch
 ./ia64 check < examples/count.s > /dev/full 2> "$dir/err"
 [ $? = 6 ] && grep -q 'writing standard output failed' "$dir/err"
 note $? 'a full output'
+printf '#!/bin/sh\necho "other $*"\nexit 9\n' > "$dir/other" && chmod +x "$dir/other" && echo 'other run 7' > "$dir/of_other"
+try 'another program' 9 "$dir/of_other" '' examples/count.s env IA64_PROGRAM="$dir/other" ./ia64 run 7
+try 'another program, and a proved one' 125 "$dir/nothing" 'IA64_PROVED wants a proved one' examples/count.s env IA64_PROGRAM="$dir/other" IA64_PROVED=1 ./ia64 run 7
+try 'another program, and a proved one, on a file' 125 "$dir/nothing" 'IA64_PROVED wants a proved one' /dev/null env IA64_PROGRAM="$dir/other" IA64_PROVED=1 ./ia64 run 7 examples/count.s
+try 'no other program' 125 "$dir/nothing" "IA64_PROGRAM names no program that can be called: $dir/none" examples/count.s env IA64_PROGRAM="$dir/none" ./ia64 check
 mkdir "$dir/links" && ln -s "$here/ia64" "$dir/links/first" && ln -s first "$dir/links/ia64"
 try 'a symbolic link' 0 "$dir/accepted" '' examples/count.s "$dir/links/ia64" check
 
@@ -335,5 +333,4 @@ PATH=$dir/no_rt built 'a built program without the kit' 0 "$dir/accepted" ''
 truncate -s -1 "$outline/crates/ia64_cli/out/ia64_cli"
 built 'half a program' 125 "$dir/nothing" 'not built from the sources as they are'
 
-echo "try_wrapper: $passed passed, $failed failed"
-[ "$failed" = 0 ]
+counted

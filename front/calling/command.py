@@ -56,8 +56,18 @@ def add_options(parser, number):
                         help="put the image that is run into a file, for run, watch, groups, trace and orders")
     parser.add_argument("--as-flags", default=[], type=str.split, metavar="FLAGS", help="more words for the GNU assembler")
     parser._negative_number_matcher = re.compile(r"-([0-9]+|0[xX][0-9a-fA-F]+)$")
-    parser.parse_args = parser.parse_intermixed_args
+    parser.parse_args = lambda words: parser.parse_intermixed_args(with_number(words))
     parser.set_defaults(run=call)
+
+
+def with_number(words):
+    """The words, where `--trace` has its number of groups also if none stands behind it: a file isn't taken for one."""
+    found = list(words)
+    for at, word in enumerate(found):
+        is_trace = word.startswith("--t") and "--trace".startswith(word)
+        if is_trace and not re.fullmatch("[-+]?[0-9]+", "".join(found[at + 1:at + 2])):
+            found[at] = f"--trace={SHOWN}"
+    return found
 
 
 def call(options, program):

@@ -62,7 +62,7 @@ class Given(NamedTuple):
 def given(path, flags, complain, say):
     """A file that is to be linked: an object file, an archive, or what the GNU assembler makes of a source."""
     label, data = printable(path), read_file(path)
-    if data.startswith((archive.ARCHIVE, archive.THIN_ARCHIVE)):
+    if archive.is_archive(data):
         return Given(label, data, os.path.abspath(path))
     kind = kind_of(data)
     if kind is Kind.IMAGE:

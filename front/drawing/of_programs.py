@@ -12,6 +12,7 @@ from front.faults import Fault
 from front.files import Kind
 from front.judging import ACCEPTED, VIOLATED
 from front.program import Refusal
+from front.refusals import RefusedInput
 
 
 class Told:
@@ -50,7 +51,7 @@ def figure(file, source, program, is_proved):
     """The figure of an image, which may be that of a text."""
     status, answer = program.call(["check"], file.data)
     if status == 3:
-        raise Fault(f"refused, {answer.strip()}")
+        raise RefusedInput(answer, file.data)
     total, broken = program.verdict(answer)
     image = programs.Image(file, program)
     bundles = split_all(image.code)

@@ -1,6 +1,8 @@
 """What the proved program prints of inputs, and what stands in the place of an answer."""
 
 from front.faults import Fault, ProgramFault
+from front.files import TOO_LONG_SAID
+from front.refusals import RefusedInput
 
 DONE, VIOLATED, WORDS, REFUSED, TOO_LONG, LIMIT, FAULTED = 0, 1, 2, 3, 4, 8, 9
 
@@ -17,9 +19,9 @@ class Answers:
         if status in (DONE, VIOLATED, LIMIT, FAULTED):
             return status, printed
         if status == REFUSED:
-            raise Fault(printed.decode(errors="backslashreplace").strip())
+            raise RefusedInput(printed.decode(errors="backslashreplace"), data)
         if status == TOO_LONG:
-            raise Fault("longer than 16,777,216 bytes")
+            raise Fault(TOO_LONG_SAID)
         if status == WORDS:
             raise ProgramFault(f"{self.program.path} has no command {words[0]}")
         raise ProgramFault(f"{words[0]} ends with status {status}")

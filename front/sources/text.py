@@ -6,18 +6,18 @@ from typing import List, NamedTuple, Optional
 from front.code import Place
 from front.faults import Unread
 from front.functions import MOST_BUNDLES
+from front.program import END_LINES
 from front.sources.bundles import Bundle, laid_out, last_slot
 from front.sources.instructions import Alignment
 from front.sources.operands import Named
 from front.sources.reader import Reference
 from front.sources.shown import shown
-from front.texts import REASONS
+from front.refusals import explained
 
 # The text has an end, a `break`, behind so many bundles, since the program takes no more than 64 without a stop, whatever a
 # function has.
 STRETCH = 50
 END = "end"
-END_LINES = ("{ .mii", "  break.m 0", "  nop.i 0", "  nop.i 0 ;;", "}")
 MOST = MOST_BUNDLES * STRETCH // (STRETCH + 1) - 1
 TAGS = range(-256, 256)
 
@@ -180,8 +180,7 @@ class Program:
         found = re.fullmatch(r"line (\d+): (.*)\n", said)
         if not found:
             return Unread(self.line, f"refused, {said.strip()}")
-        meaning = f": {REASONS[found[2]]}" if found[2] in REASONS else ""
-        return Unread(self.lines[int(found[1]) - 1] or self.line, f"refused, {found[2]}{meaning}", False)
+        return Unread(self.lines[int(found[1]) - 1] or self.line, f"refused, {explained(found[2])}", False)
 
     def require_bundle(self, instruction):
         """A target that the source lacks is outside of it, and one that it has is a bundle."""

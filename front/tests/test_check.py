@@ -20,6 +20,7 @@ from pathlib import Path
 from front.bundle import NOPS as NOP_WORDS, Bundle, displacement_layout, split, with_displacement
 from front.content import read_file
 from front.faults import Fault
+from front.listing import END
 from front.program import Program
 from front.tests import case
 from front.tests.case import FRONT, HAS_GNU, PROGRAM, asked, needs_gnu
@@ -660,7 +661,6 @@ class Files(Case):
                      f"a big-endian ELF file of 64 bits for SPARC; {only}")
         self.refused(good[:16] + b"\4\0" + good[18:], "an ELF file of type 4, neither an object file nor linked")
         self.refused(b"", "empty")
-        self.refused(b"\0int main;\n", "neither code for Itanium, nor an archive of it, nor an image, nor a text", "a.c")
         os.mkdir("folder")
         self.assertEqual(self.call("folder", "none")[::2], (
             2, "ia64: folder: Is a directory\nia64: none: No such file or directory\n"))
@@ -729,7 +729,8 @@ class Files(Case):
         self.assertLess(seconds, 60)
 
     def test_a_listing_of_many_functions(self):
-        """They are asked about together, and each reads as it does alone, also beside a word of no instruction."""
+        """They are asked about together, and each reads as it does alone, also beside a word of no instruction, but for the ends
+        behind them and the lines that make their starts entries."""
         unknown = Bundle(0x01, ((1 << 41) - 1, 1 << 27, 1 << 27)).packed()
         codes = [bundles(WRITES + RETURN), FLUSHRS + bundles(RETURN), bytes([6]) + bytes(15), bundles(3 * NOPS)]
         self.put(many_functions([codes[number % 4] if number != 30 else unknown for number in range(60)]))
@@ -743,11 +744,12 @@ class Files(Case):
         with unittest.mock.patch.object(Program, "raw", raw):
             together = self.lines("list", "a.o")[1]
         self.assertLess(len(calls), 12)
-        alone = []
-        for number in range(60):
-            alone += [""] * bool(number) + self.lines("list", "a.o", f"f{number}")[1]
-        self.assertEqual(together, alone)
-        self.assertEqual(sum("word 0x1ffffffffff" in line for line in together), 1)
+        alone = [line for number in range(60) for line in self.lines("list", "a.o", f"f{number}")[1]]
+        end = "".join(f"{line}\n" for line in END)
+        of_each, of_all = (re.sub(r"(?m)^(\.entry f\d+)?\n", "", "".join(f"{line}\n" for line in lines).replace(end, ""))
+                           for lines in (alone, together))
+        self.assertEqual(of_all.splitlines(), of_each.splitlines())
+        self.assertEqual(sum(line.startswith("  word 0x1ffffffffff") for line in together), 1)
 
     def test_more_functions_than_an_image_has_entries(self):
         part = bundles(RETURN)
@@ -843,12 +845,12 @@ class Calls(Case):
             with open("/dev/full", "w") as full, asked(PROGRAM):
                 done = subprocess.run([sys.executable, FRONT, *words], stdout=full, stderr=subprocess.PIPE, check=False)
             self.assertEqual(done.returncode, 2)
-            self.assertEqual(done.stderr, b"ia64: the lines can't be written: No space left on device\n")
+            self.assertEqual(done.stderr, b"ia64: standard output: it can't be written: No space left on device\n")
 
     def test_a_closed_output(self):
         command = ["sh", "-c", 'exec "$0" "$1" check --help >&-', sys.executable, FRONT]
         done = subprocess.run(command, stderr=subprocess.PIPE, check=False)
-        self.assertEqual((done.returncode, done.stderr), (2, b"ia64: standard output is closed\n"))
+        self.assertEqual((done.returncode, done.stderr), (2, b"ia64: standard output: it is closed\n"))
 
     def test_a_stream_without_an_end(self):
         with unittest.mock.patch("front.content.MOST_STREAMED", 1000), self.assertRaises(Fault) as refused:

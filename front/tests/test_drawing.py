@@ -356,7 +356,7 @@ class Functions(Draw):
         for called, said in ((("nothing.s",), "nothing.s: No such file"), (("x.text",), "x.text: refused, line 1: misplaced"),
                              (("x.image",), "x.image: refused, image: short"),
                              (("y.s", "f"), "y.s: a program, which has no functions with names"),
-                             (("y.s", "-o", "no/x.svg"), "no/x.svg can't be written")):
+                             (("y.s", "-o", "no/x.svg"), "ia64: no/x.svg: it can't be written")):
             status, printed, error = self.ia64("draw", *called)
             self.assertEqual((status, printed), (2, b""), called)
             self.assertIn(said, error)

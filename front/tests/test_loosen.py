@@ -3,7 +3,7 @@
 import unittest
 from pathlib import Path
 
-from front.loosen import loosened
+from front.loosen import loosened, with_numbers
 from front.tests.case import Case
 
 
@@ -88,6 +88,8 @@ class Others(Left):
 
     def test_a_text_of_no_bytes(self):
         self.assertEqual(loosened(b""), b"")
+        self.assertEqual(with_numbers(b"{ .mii\nnop.m 0 // x\n}\nx:\nadd r8=r9,r10\n"),
+                         (b"nop.m 0  // x\nx:\nadd r8=r9,r10\n", [2, 4, 5]))
 
     def test_no_line_feed_at_the_end(self):
         self.assertEqual(loosened(b"mf ;;"), b"mf\n")

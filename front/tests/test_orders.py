@@ -105,9 +105,9 @@ class Examples(Compared):
 
     def test_refusals(self):
         self.input.write_text("no instruction\n")
-        self.refuses("input: line 1: name", self.input)
+        self.refuses("input: refused, line 1: name", self.input)
         self.input.write_bytes(b"IA64IMG1")
-        self.refuses("input: image: short", self.input)
+        self.refuses("input: refused, image: short", self.input)
         self.refuses("nowhere: No such file", self.folder / "nowhere")
 
 
@@ -125,10 +125,10 @@ class Code(Compared):
 
     def test_a_source(self):
         """A text named as a source that is refused at a directive which no text has."""
-        said = f"'.explicit' is of a source for the GNU assembler; {self.HINT}"
+        said = f"refused, line 7: name: the leading word begins no line; '.explicit' is of a source for the GNU assembler; {self.HINT}"
         status, printed, error = self.ia64("orders", example("functions"))
         self.assertEqual((status, printed), (2, b""))
-        self.assertTrue(error.endswith(f"functions.s: line 7: name: {said}"), error)
+        self.assertTrue(error.endswith(f"functions.s: {said}"), error)
         for words in self.COMMANDS[1:]:
             status, printed, error = self.ia64(*words, example("functions"))
             self.assertEqual((status, printed), (3, b"line 7: name\n"))
@@ -217,7 +217,7 @@ class Calls(Compared):
                       ["--orders", "18446744073709551616", "x"], ["--orders", "-1", "x"], ["--orders", "07", "x"],
                       ["-n", "007", "x"], ["--groups", "5", "x"], ["--random", "x", "x"], ["x", "y"], ["x", "0"],
                       ["x", "1", "2"]):
-            self.refuses("usage: ia64 orders", *words)
+            self.refuses("ia64: orders: ", *words)
         self.refuses("--order names the writes of one group", "--order", "0,1", "x")
         for words in (["-n", "5"], ["--orders", "1"]):
             self.refuses("-n and --orders are of all groups of a run", *words, "x", "1")
@@ -456,9 +456,9 @@ class OneGroup(Compared):
 
     def test_refusals(self):
         self.input.write_text("no instruction\n")
-        self.refuses("input: line 1: name", self.input, 1)
+        self.refuses("input: refused, line 1: name", self.input, 1)
         self.input.write_bytes(b"IA64IMG1")
-        self.refuses("input: image: short", self.input, 1)
+        self.refuses("input: refused, image: short", self.input, 1)
 
 
 class Writes(Compared):

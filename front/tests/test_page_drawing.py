@@ -160,11 +160,13 @@ class Figures(unittest.TestCase):
     """Figures of programs."""
 
     def same(self, name, rows):
-        """Of these labels and inputs both have the same figures, or the same faults."""
+        """Of these labels and inputs both have the same figures, or the same faults, which the front also explains."""
         given = [data.decode("latin-1") if name == "of_text" else as_bytes(data) for _, data in rows]
         found = called(*((f"figures.{name}", [label, each, {"ask": True}]) for (label, _), each in zip(rows, given)))
         for (label, data), each in zip(rows, found):
             wanted = figure(label, data)
+            if isinstance(wanted, str) and wanted.startswith(f"{each.get('fault')}: "):
+                wanted = each["fault"]
             self.assertEqual(each.get("fault", each.get("figure")), wanted if isinstance(wanted, str) else as_data(wanted), label)
         return found
 

@@ -1,6 +1,8 @@
 """Texts and images as files, and the command line."""
 
 import json
+import os
+import shutil
 import subprocess
 import sys
 import unittest
@@ -68,7 +70,8 @@ class Programs(Case):
         self.assertEqual(self.lines("check", text), (2, [f"x:8{said}", counts], ""))
         # What might be a source for the GNU assembler is refused by both, and isn't one at its looks.
         self.assertEqual(self.lines("check", self.put(WRONG.replace(b"x: // label", b"x: y"))), (2, [f"x.s:8{said}", counts], ""))
-        self.assertEqual(self.lines("check", self.put(b"IA64IMG1", "x"))[1][0], "x: error: refused, image: short")
+        self.assertEqual(self.lines("check", self.put(b"IA64IMG1", "x"))[1][0],
+                         "x: error: refused, image: short: it has fewer than 24 bytes")
 
     def test_every_rule(self):
         """What is said of each rule, of a text and of its image."""
@@ -129,8 +132,8 @@ class Programs(Case):
         source = example("functions.s").read_text()
         with unittest.mock.patch("front.gnu.installed", lambda tool: None):
             status, lines, said = self.lines("show", self.put(source.encode()), "sum")
-            self.assertEqual((status, lines[:3], said), (0, ["sum:".ljust(40) + "// .text+0x70, 0x30 bytes", "{ .mmi  // +0x70",
-                                                             "  lfetch.nta [r33]"], ""))
+            self.assertEqual((status, lines[1:4], said), (0, ["sum:".ljust(40) + "// .text+0x70, 0x30 bytes", "{ .mmi  // +0x70",
+                                                              "  lfetch.nta [r33]"], ""))
             source = source.replace("lfetch.nta", "lfetch.x")
             status, lines, _ = self.lines("check", self.put(source.encode()))
             self.assertEqual((status, lines[0]), (
@@ -209,21 +212,23 @@ class Commands(Case):
 
     def test_listings(self):
         status, lines, _ = self.lines("show", example("functions.o"), "twice", "sum")
-        self.assertEqual((status, lines[0].split()[0], [line for line in lines if line.endswith(":")]), (0, "twice:", []))
+        self.assertEqual((status, lines[0].split()[0], [line for line in lines if line.endswith(":")]), (0, "twice:", ["swap:"]))
         self.assertIn("  br.call.sptk.many b0=swap ;;", lines)
         self.assertTrue(any("lfetch" in line or "word 0x" in line for line in lines))
         status, lines, said = self.lines("list", example("functions.o"), "twices", "nothing", "sum")
-        self.assertEqual((status, lines[0].split()[0], said), (2, "sum:", "".join(
+        self.assertEqual((status, lines[1].split()[0], said), (2, "sum:", "".join(
             f"ia64: {example('functions.o')}: no function {each}\n"
             for each in ("twices; it has twice", "nothing; it has sum, swap, twice"))))
         self.assertEqual(self.ia64("show", example("count.s"))[0], 0)
 
     def test_wrong_words(self):
         for words, said in (((), "a command is missing"), (("assemble",), "no command 'assemble'"),
-                            (("run", "0", "x"), "'run' takes one number"), (("groups", "7", example("count.s")), "'groups' takes two numbers"),
+                            (("run", "0", "x"), "run: it takes one number"), (("groups", "7", example("count.s")), "groups: it takes two numbers"),
                             (("Check", example("count.s")), f"perhaps: ia64 check {example('count.s')}"),
                             (("run", "100", "nowhere"), "nowhere: No such file or directory"),
-                            (("list", "nowhere"), "nowhere: No such file or directory")):
+                            (("list", "nowhere"), "nowhere: No such file or directory"), (("check",), "check: FILE is missing; `ia64 check"),
+                            ((example("count.s"),), f"perhaps: ia64 check {example('count.s')}"),
+                            (("check", "--no"), "ia64: check: FILE is missing; `ia64 check --help` says what it takes\n")):
             status, printed, error = self.ia64(*words)
             self.assertEqual((status, printed), (2, b""), words)
             self.assertIn(said, error)
@@ -233,6 +238,68 @@ class Commands(Case):
         self.assertEqual((status, error), (0, ""))
         for command in (b"check FILE", b"list FILE", b"trial SEED"):
             self.assertIn(command, printed)
+
+    def test_a_named_program(self):
+        """The program that the environment names answers on standard input too, unless that wants a proved one."""
+        named, words = self.folder / "named", [str(ROOT / "ia64"), "run", "7"]
+        named.write_text('#!/bin/sh\necho "named $*"\nexit 9\n')
+        named.chmod(0o755)
+        for proved, status, printed in (("", 9, b"named run 7\n"), ("0", 9, b"named run 7\n"), ("1", 125, b"")):
+            on_files = [[*words, str(example("count.s"))]] * bool(shutil.which("python3"))
+            for call in (words, *on_files, [sys.executable, FRONT, "run", "7", str(example("count.s"))]):
+                done = subprocess.run(call, stdin=subprocess.DEVNULL, stdout=subprocess.PIPE, stderr=subprocess.PIPE, check=False,
+                                      env={**os.environ, "IA64_PROGRAM": str(named), "IA64_PROVED": proved})
+                self.assertEqual((done.returncode, done.stdout), (status, printed), call)
+                self.assertEqual(b"IA64_PROVED wants a proved one" in done.stderr, proved == "1")
+        done = subprocess.run(words, stdin=subprocess.DEVNULL, stdout=subprocess.PIPE, stderr=subprocess.PIPE, check=False,
+                              env={**os.environ, "IA64_PROGRAM": str(self.folder / "none")})
+        self.assertEqual((done.returncode, done.stdout), (125, b""))
+        self.assertIn(b"IA64_PROGRAM names no program that can be called", done.stderr)
+
+    def test_a_byte_0(self):
+        """What has one is refused by the program, with its line, whatever is asked; and it is said to be nothing else."""
+        char = "char: a byte that isn't a tab or one of 0x20 to 0x7e"
+        nothing = "; the file is neither code for Itanium, nor an archive of it, nor an image"
+        for name, data, line in (("first", b"\0int main;\n", 1), ("second", b"// a text\n\0\n", 2), ("late", b"\n" * 5000 + b"\0", 5001),
+                                 ("first.s", b"\0int main;\n", 1)):
+            (self.folder / name).write_bytes(data)
+            with unittest.mock.patch("front.gnu.installed", lambda tool: None):
+                self.assertEqual(self.lines("check", name)[:2], (2, [f"{name}:{line}: error: refused, {char}{nothing}",
+                                                                     "0 accepted, 0 violated, 0 not judged"]), name)
+            said = f"ia64: {name}: refused, line {line}: {char}{nothing}\n"
+            for words in (("run", "5"), ("watch", "5"), ("groups", "5", "0"), ("build",), ("stops",), ("trace",)):
+                self.assertEqual(self.ia64(*words, name), (3, f"line {line}: char\n".encode(), said), words)
+            for word in ("show", "list", "draw", "orders", "loosen"):
+                if not name.endswith(".s") or word in ("orders", "loosen"):
+                    self.assertEqual(self.ia64(word, name), (2, b"", said), word)
+
+    def test_the_lines_of_a_text_that_is_packed(self):
+        """A refusal has the line of the file, also where the bundles of the text were taken out."""
+        text = b"// a text\n{ .mii\n  nop.m 0\n  nop.i 0\n  nop.i 0 ;;\n}\n{ .mii\n  add r8=r9,r10\n%s\n  nop.i 0\n}\n%s"
+        for said, more, line, reason in ((b"  foo r8", b"", 9, "name"), (b"  mf", b"x:\n", 13, "misplaced")):
+            (self.folder / "x.s").write_bytes(text % (said, more))
+            status, printed, error = self.ia64("stops", "x.s")
+            self.assertEqual((status, printed), (3, f"line {line}: {reason}\n".encode()))
+            self.assertIn(f"x.s: refused, line {line}: {reason}: ", error)
+
+    def test_an_archive(self):
+        """It is said to be one where a text or an image is wanted, as an object file is."""
+        member = example("functions.o").read_bytes()
+        head = "a.o/".ljust(48).encode() + str(len(member)).ljust(10).encode() + b"`\n"
+        (self.folder / "x.a").write_bytes(b"!<arch>\n" + head + member)
+        self.assertEqual(self.lines("check", "x.a")[:2][0], 1)
+        self.assertEqual(self.ia64("show", "x.a", "swap")[0], 0)
+        for words in (("run", "5"), ("groups", "5", "0"), ("trace",), ("orders",), ("stops",), ("loosen",)):
+            status, printed, said = self.ia64(*words, "x.a")
+            self.assertEqual((status, printed), (2, b""), words)
+            self.assertRegex(said, "^ia64: x.a: an archive, and no (program|text)[:;] `")
+        for word, said in (("build", "line 1: name: the leading word begins no line"), ("lift", "image: magic: it doesn't begin with IA64IMG1 "
+                                                                                      "or IA64IMG2, as an image does")):
+            self.assertEqual(self.ia64(word, "x.a")[::2], (
+                3, f"ia64: x.a: refused, {said}; it is an archive: `ia64 check FILE` takes it, and `ar x` takes out its members\n"))
+        (self.folder / "y.a").write_bytes(b"!<arch>\n" + 2 * (head + member))
+        said = "ia64: y.a: an archive of several files, and one is wanted: `ar x` takes out its members\n"
+        self.assertEqual(self.ia64("show", "y.a"), (2, b"", said))
 
     def test_as_a_program(self):
         with asked(PROGRAM):

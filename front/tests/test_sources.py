@@ -1154,7 +1154,7 @@ class Lines(unittest.TestCase):
             ("{ .mlx", 15), ("  nop 0", 0), ("  movl r8 = 5 ;;", 15), ("}", 0),
             ("{ .mmi", 0), ("  nop 0", 0), ("  nop 0", 0), ("  nop 0", 0), ("}", 0),
             ("{ .mib", 17), ("  nop 0", 0), ("  nop 0", 0), ("  br.few end ;;", 17), ("}", 0),
-            ("end:", 0), ("{ .mii", 0), ("  break.m 0", 0), ("  nop.i 0", 0), ("  nop.i 0 ;;", 0), ("}", 0)])
+            ("end:", 0), ("{ .mii", 0), ("  break.m 0x0", 0), ("  nop.i 0x0", 0), ("  nop.i 0x0 ;;", 0), ("}", 0)])
         code = code_of(text)
         self.assertEqual([code.line((0, 16 * bundle, slot)) for bundle in range(5) for slot in range(3)],
                          [7, 7, 10, 15, 15, 15, 15, 15, 15, None, None, None, 17, 17, 17])

@@ -119,11 +119,15 @@ def stretches(pairs):
 
 # ---- Changes ---------------------------------------------------------------------------------------------
 
+# The lines of the registers that no frame has.
+GLOBAL = re.compile(r"r([1-9]|[12][0-9]|3[01])")
+
+
 def changes(before, after, places):
     """All changes from one state to another, in the order of the lines of a state, and the frame first."""
     lines = sorted({name for name, _ in before.lines.items() ^ after.lines.items()}, key=rank_of)
     return [*frame_changes(before.frame, after.frame), *names_changed(before.frame, after.frame),
-            *line_changes([f"r{number}" for number in range(1, 32)], before, after, places),
+            *line_changes([name for name in lines if GLOBAL.fullmatch(name)], before, after, places),
             *register_changes(before, after, places), *predicate_changes(before, after),
             *line_changes([name for name in lines if re.match(r"b\d|ar\.", name)], before, after, places),
             *line_changes([name for name in lines if name.startswith("m ")], before, after, places),
@@ -153,13 +157,16 @@ def parts_apart(*parts):
 
 def names_changed(before: Frame, after: Frame):
     """The registers that a call leaves below the frame, those that a return brings back, and what is named otherwise."""
+    if before == after:
+        return
     left = range(before.first, min(after.first, before.first + before.sof))
     back = range(after.first, min(before.first, after.first + after.sof))
     yield from (Change(each, "in the frame", "below it") for each in spans("r", map(before.register, left)))
     yield from (Change(each, "below the frame", "in it again") for each in spans("r", map(after.register, back)))
     both = range(max(before.first, after.first), min(before.first + before.sof, after.first + after.sof))
     yield from renamed("r", ((before.register(cell), after.register(cell)) for cell in both))
-    yield from renamed("p", ((before.predicate(place), after.predicate(place)) for place in range(16, 64)))
+    if before.rrb_of_predicates != after.rrb_of_predicates:
+        yield from renamed("p", ((before.predicate(place), after.predicate(place)) for place in range(16, 64)))
 
 
 def renamed(letter, pairs):
@@ -188,10 +195,12 @@ def register_changes(before, after, places):
 
 def predicate_changes(before, after):
     """The places of the predicates whose bits are others, by the names behind the group."""
-    for number in range(64):
+    apart = before.predicates ^ after.predicates
+    for number in range(64) if apart else ():
         place = after.frame.place(number)
-        was, *bits = before.frame.predicate(place), *(str(state.predicates >> place & 1) for state in (before, after))
-        yield from changed(noted(f"p{number}", f"p{was} before" if was != number else ""), *bits)
+        if apart >> place & 1:
+            was, *bits = before.frame.predicate(place), *(str(state.predicates >> place & 1) for state in (before, after))
+            yield Change(noted(f"p{number}", f"p{was} before" if was != number else ""), *bits)
 
 
 def alat_changes(before, after):

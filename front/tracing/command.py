@@ -47,7 +47,7 @@ def add_options(parser, number):
 def misuse_of(options):
     """What is wrong with the words of a call that has more than a file and a number, or numbers alone; nothing of others."""
     is_number = re.fullmatch("[0-9]+", options.file) and not os.path.exists(options.file)
-    return f"'trace' takes {TAKES}: ia64 trace FILE {SHOWN}, or ia64 trace 0 {SHOWN} < FILE" if options.more or is_number else ""
+    return f"it takes {TAKES}: ia64 trace FILE {SHOWN}, or ia64 trace 0 {SHOWN} < FILE" if options.more or is_number else ""
 
 
 def names(text):
