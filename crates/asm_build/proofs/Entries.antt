@@ -21,12 +21,12 @@ use Rattle.asm_build.specs.Names.{bundle_at, declared, within_limit, declared_by
 use Rattle.asm_build.specs.TextParts.{Labels, address_of}
 use Rattle.asm_build.proofs.LabelValues.{label_within}
 
--- The numbers rise strictly from above `low`, and stay below `count`.
+-- they rise from above `low`, below `count`
 abbrev pub RiseFrom : ℕ → ℕ → List ℕ → Type 0
 RiseFrom low count [] = Unit {0}
 RiseFrom low count (n ∷ ns) = (low < n) × (n < count) × RiseFrom n count ns
 
--- Rising numbers with one more inserted still rise.
+-- so do they with one more
 inserted : (low count k : ℕ) (ns : List ℕ) → low < k → k < count → RiseFrom low count ns → RiseFrom low count (insert_key nat_cmp ns k)
 inserted low count k [] l c rise = (l, c, tt)
 inserted low count k (n ∷ ns) l c rise = elim (cases_order k n) [

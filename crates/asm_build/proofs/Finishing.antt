@@ -80,7 +80,7 @@ pub entries_are : (s : TextParts) → AreLabelsInside s → name_fault s ≡ Non
 entries_are s inside none =
     rw (length_named s.labels 0 s.bundles) (entries_of_rising (length s.bundles) (program_of s).entries (entries_good s inside none).0)
 
--- The target of an operation, where it has one, is one of `count` bundles.
+-- the target of an operation, where it has one, is one of so many bundles
 abbrev HasTargetInside : ℕ → ℕ → Op → Type 0
 HasTargetInside count n x = IfSome (displacement x) (IsBundleAt count n)
 
@@ -138,7 +138,7 @@ pub both_none : (o p : Option ℕ) → or_else o p ≡ None → (o ≡ None) × 
 both_none None p e = (refl, e)
 both_none (Some line) p e = cc
 
--- Each slot of each bundle from the n-th on, with the address of its name, has its target inside.
+-- so does each of bundles, the first of which is the n-th
 bundles_inside : (labels : Labels) (count n : ℕ) (bs : List BundleLines) → AllByRecursion (IsInside count) (values_of labels) → unnamed_bundle labels n bs ≡ None
     → (k m : ℕ) → m ≡ n + k → IfSome (slice_get (bundles_named labels n bs) k) (λ b. AreTargetsInside count m b.slots)
 bundles_inside labels count n [] all none k m is = tt
@@ -209,7 +209,7 @@ pub run_is_first : (count : ℕ) (s : TextParts) (place : Place) (line : ℕ) �
 run_is_first count s place line closed inside some none related first is =
     inr ((closed, inside), inr (some, inr (none, inr (related, inl (place, ap (λ l. error.Fault l LongRun) is, first)))))
 
--- The fault of a run is the first fault of the text.
+-- So the fault of a run is the first one.
 pub run_reported : {T : Type 0} (count : ℕ) (s : TextParts) (lines : List BundleLines) (bundles : List Bundle) (r : Result T TextError) → s.current ≡ None → AreLabelsInside s → 1 ≤ length s.bundles → name_fault s ≡ None → AreRelated s
     → lines ≡ s.bundles → bundles ≡ (program_of s).bundles
     → IfErr r (λ e. (place : Place) × IsFirstBad bundles (IsWithinRun bundles) place × (e ≡ error.Fault (line_at lines place) LongRun))

@@ -28,7 +28,7 @@ differ m n a b other = by (slice_cmp nat_cmp (label_text m) (label_text n)) refl
     by Equal h = absurd (other (decimal_injective m n (omega (arith, a)) (omega (arith, b)) (ap (drop 1) (exact_bytes (label_text m) (label_text n) h))))
     by Greater h = refl
 
--- The bundles before the n-th that are entries or targets have labels, and no other has. Each is one of `count` bundles.
+-- The bundles before the n-th that are entries or targets have labels, and no other has; each is one of so many.
 pub record HasLabels (entries targets : List ℕ) (count n : ℕ) (labels : Labels) : Type 0 where
   pub named : (m : ℕ) → m < n → (is_among entries m || is_among targets m) ≡ true → address_of labels (label_text m) ≡ Some (Bundle m)
   pub later : (m : ℕ) → n ≤ m → m < 2 ^ 32 → address_of labels (label_text m) ≡ None

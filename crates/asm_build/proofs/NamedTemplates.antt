@@ -193,11 +193,11 @@ some_fit : (o : Option Shape) (slots : Slots) → FitUnits (unwrap_or o no_shape
 some_fit None slots fit = absurd fit
 some_fit (Some t) slots fit = refl
 
--- The template of a bundle has a name.
+-- The template of a bundle has a name,
 pub has_name : (code : ℕ) (slots : Slots) → FitUnits (units_of code) slots → HasName code
 has_name code slots fit = template_named code (some_fit (shape_of (code / 2)) slots fit)
 
--- The template of a bundle is the one of its name and its stops.
+-- and is the one of the name and its stops.
 pub same_named : (s : TemplateName) (code : ℕ) → IsNamedBy s code → template_of s (has_stop code 0) (has_stop code 1) (has_stop code 2) ≡ Some code
 same_named s code named = template_is s _ _ _ code (record { units = named.units; stops = named.stops })
 
@@ -230,7 +230,7 @@ short_of s u v w e other = tt
 second_unit : (s : TemplateName) (u v w : ExecutionUnit) → units_named s ≡ u ∷ v ∷ w ∷ [] → slice_index_or (units_named s) 1 L ≡ v
 second_unit s u v w e = ap (λ us. slice_index_or us 1 L) e
 
--- A template whose second unit is L is that of long instructions.
+-- and one whose second unit is L is that of long instructions
 pub long_of : (s : TemplateName) (u v w : ExecutionUnit) → units_named s ≡ u ∷ v ∷ w ∷ [] → v ≡ L → s ≡ template_name.Mlx
 long_of s u v w e is = by s (second_unit s u v w e ∙ is)
   where

@@ -46,7 +46,7 @@ natural_below : (z : ℤ) (count : ℕ) → pos 0 ≤ℤ z → z <ℤ pos count 
 natural_below (pos n) count h less = ltb→lt n count less.lt
 natural_below (negsuc n) count h less = absurd h.le
 
--- The distance of a target is the one between the two bundles' numbers.
+-- and its distance
 distance_back : (n count : ℕ) (disp : ℤ) → IsBundleAt count n disp → pos (natural_of (pos n +ℤ disp)) -ℤ pos n ≡ disp
 distance_back n count disp h = ap (λ z. z -ℤ pos n) (natural_is (pos n +ℤ disp) h.0 ∙ +ℤ_comm (pos n) disp) ∙ +ℤ-neg_ℤ_cancel disp (pos n)
 
@@ -130,7 +130,7 @@ bundles_back labels count n (b ∷ bs) (l ∷ ls) good are h =
     let later = bundles_back labels count (n + 1) bs ls good.1 are.1 (second_labelled labels count (bundle_targets n b.slots) (targets_from (n + 1) bs) h) in
     ap (λ c. c ∷ bundles_named labels (n + 1) ls) here ∙ ap (λ cs. b ∷ cs) later
 
--- Each name in the bundles from the n-th on means what fits.
+-- and each of their names means what fits
 pub all_names_mean : (labels : Labels) (count n : ℕ) (bs : List Bundle) (ls : List BundleLines) → AreGood count n bs → AreAllLinesOf n bs ls → AreLabelled labels count (targets_from n bs) → unnamed_bundle labels n ls ≡ None
 all_names_mean labels count n [] [] good are h = refl
 all_names_mean labels count n (b ∷ bs) [] good are h = absurd are

@@ -8,7 +8,7 @@ use Rattle.asm_build.specs.TextParts.{numbers_bytes}
 eight : (v : ℕ) → length (to_le_bytes w64 v) ≡ 8
 eight v = refl
 
--- No more than eight bytes of a number are taken, whatever the size.
+-- so no more than eight are taken
 pub most_bytes : (size : ℕ) (v : ℕ) → take (min size 8) (to_le_bytes w64 v) ≡ take size (to_le_bytes w64 v)
 most_bytes size v = take_min size (to_le_bytes w64 v)
 

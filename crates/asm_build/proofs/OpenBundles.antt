@@ -30,12 +30,12 @@ units_fit s a b c fit = (fit.0, fit.1, fit.2, λ e. cc)
 same_units : (s : TemplateName) (first second third : Bool) (code : ℕ) (contents : Slots) → template_of s first second third ≡ Some code → FitUnits (units_named s) contents → FitUnits (units_of code) contents
 same_units s first second third code contents is fit = subst (λ us. FitUnits us contents) (sym (units_are s first second third code is)) fit
 
--- Slots that fit their places fit the template of a bundle of three slots.
+-- they fit the template of the bundle, of three slots
 pub fits_three : (s : TemplateName) (a b c : SlotLine) (first second third : Bool) (code : ℕ) → AreFitting s (slots.Three a b c) → template_of s first second third ≡ Some code
     → FitUnits (units_of code) (Three a.insn b.insn c.insn)
 fits_three s a b c first second third code fit is = same_units s first second third code (Three a.insn b.insn c.insn) is (units_fit s a b c fit)
 
--- Slots that fit their places fit the template of a bundle with a long instruction.
+-- and of a long instruction
 pub fits_long : (a b : SlotLine) (first second third : Bool) (code : ℕ) → AreFitting template_name.Mlx (slots.Two a b) → template_of template_name.Mlx first second third ≡ Some code
     → FitUnits (units_of code) (Long a.insn b.insn)
 fits_long a b first second third code fit is = same_units template_name.Mlx first second third code (Long a.insn b.insn) is (fit.0, fit.1, refl)

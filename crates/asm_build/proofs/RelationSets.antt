@@ -259,7 +259,7 @@ related_stay IsEntry before after bundle ps entry all is h =
     let good = all_of_fit IsEntry (with_relations before (relations_among bundle ps)) (fit_with IsEntry before (relations_among bundle ps) fit (fit_of_all IsEntry before h)) in
     subst (AreRelationsOf IsEntry) (sym is) good
 
--- Relations of entries stay so with those that a line of an entry declares.
+-- so they do with those that a line declares
 pub line_stays : (IsEntry : ℕ → Type 0) (before after : List Relation) (l : RelationLine) (r : Result (Unit {0}) TextError) → IsEntry l.bundle → All IsRelated l.predicates
     → OnOk r ((length (related before l) ≤ RELATION_LIMIT) × (after ≡ related before l)) → OnOk r (AreRelationsOf IsEntry before → AreRelationsOf IsEntry after)
 line_stays IsEntry before after l (Ok u) entry all h = related_stay IsEntry before after l.bundle l.predicates entry all h.1

@@ -20,11 +20,11 @@ use Rattle.asm_build.specs.TextParts.{TextParts, after, value_stages, closed_of,
 use Rattle.asm_build.specs.WholeTexts.{SlotSaid, is_stopped, slots_in, bundles_in}
 use Rattle.asm_build.proofs.SaidLines.{Follow}
 
--- A slot line as it is said.
+-- a slot line as it is said
 abbrev said : SlotLine → SlotSaid
 said l = record { insn = l.insn; target = l.target; stop = l.stop }
 
--- A slot line as it is said where a stop may follow it on the next lines.
+-- and where a stop may follow it on the next lines
 abbrev said_before : SlotLine → List Line → SlotSaid
 said_before l rest = record { insn = l.insn; target = l.target; stop = is_stopped rest || l.stop }
 

@@ -65,7 +65,7 @@ one_entry s n (line.Entry name) = map-append (λ (e : EntryLine). e.name) s.entr
 one_entry s n line.Close = ap names_of (closed_entries s (closed_of s.current)) ∙ sym (append-nil (names_of s.entries))
 one_entry s n v = sym (append-nil (names_of s.entries))
 
--- The names of the entries are those before the lines, and then those of the lines.
+-- and so are the names of the entries
 pub all_entries : (s : TextParts) (n : ℕ) (values : List Line) (t : TextParts) → Follow s n values t → names_of t.entries ≡ names_of s.entries ++ entries_in values
 all_entries s n [] t h = ap (λ (u : TextParts). names_of u.entries) h ∙ sym (append-nil (names_of s.entries))
 all_entries s n (v ∷ vs) t h =

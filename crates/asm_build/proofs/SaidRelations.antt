@@ -27,7 +27,7 @@ pub record IsAmong (ls : List RelationLine) (n : ℕ) (ps : List ℕ) : Type 0 w
   pub bundle : declaring.bundle ≡ n
   pub predicates : declaring.predicates ≡ ps
 
--- One of the text's lines after these declares relations of the n-th bundle, between these predicates.
+-- so does one of the text's lines after these
 pub record IsOn (s : TextParts) (values : List Line) (n : ℕ) (ps : List ℕ) : Type 0 where
   pub before : List Line
   pub after : List Line

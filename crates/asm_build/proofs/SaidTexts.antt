@@ -109,7 +109,7 @@ bundles_said lines labels n (x ∷ xs) (l ∷ ls) said drafted none =
     let nones = both_none (unnamed_slot labels n l) (unnamed_bundle labels (n + 1) ls) none in
     (slots_of labels n l nones.0 x.0 x.1 lines said drafted.0, bundles_said lines labels (n + 1) xs ls said drafted.1 nones.1)
 
--- Where names have no fault, they mean what fits, and the declared entries are within their limit.
+-- where names have no fault, they mean what fits, and so many entries are declared
 record NoNameFault (s : TextParts) : Type 0 where
   pub bundles : unnamed_bundle s.labels 0 s.bundles ≡ None
   pub entries : all_declared s.labels [] s.entries ≡ Ok (or_none (all_declared s.labels [] s.entries))

@@ -57,7 +57,7 @@ abbrev pub Chain : {K : Type 0} → (K → K → Type 0) → (K → Type 0) → 
 Chain Before Good low [] = Unit {0}
 Chain Before Good low (n ∷ ns) = Before low n × Good n × Chain Before Good n ns
 
--- A chain with one more inserted is a chain.
+-- so it is with one more
 pub chain_grows : {K : Type 0} (R : K → K → Ordering) (Before : K → K → Type 0) (Good : K → Type 0) → IsOrderedBy R Before → (low k : K) (ns : List K) → Before low k → Good k → Chain Before Good low ns
     → Chain Before Good low (insert_key R ns k)
 chain_grows R Before Good o low k [] l g c = (l, g, tt)

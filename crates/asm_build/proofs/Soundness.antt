@@ -15,7 +15,7 @@ use Rattle.ia_program.proofs.ListedSlots.{unit_listed}
 use Rattle.asm_printing.specs.SlotTexts.{HasTarget}
 use Rattle.asm_build.specs.Marks.{IsSound, AreSound, AreAllSound}
 
--- The target of an instruction, where it has one, is one of `count` bundles.
+-- the target of an instruction, where it has one, is one of so many bundles
 abbrev pub IsInside : ℕ → ℕ → Option Insn → Type 0
 IsInside count n o = IfSome o (λ i. IfSome (displacement i.op) (IsBundleAt count n))
 

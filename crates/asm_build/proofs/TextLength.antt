@@ -30,7 +30,7 @@ use Rattle.asm_build.proofs.KeysBelow.{next_below}
 use Rattle.asm_build.proofs.RelationsSoFar.{bundle_of, relations_below, BundlesFrom, relations_rise, relations_fit, IsPrinted, printed_at, relation_is_short}
 use Rattle.asm_build.proofs.WrittenTexts.{AreGood, good_of}
 
--- The slot lines of listed instructions have at most this many bytes.
+-- the slot lines of listed instructions have at most so many bytes
 abbrev pub AreSlotLinesWithin : ℕ → Type 0
 AreSlotLinesWithin most = (i : Insn) (bundle : ℕ) (stop : Bool) → IsListed i → bundle < 2 ^ 32 → length (slot_text i bundle stop) ≤ most
 
@@ -158,7 +158,7 @@ few_words : (bytes : List ℕ) → 8 * length (words_of bytes) ≤ length bytes
 few_words (a ∷ b ∷ c ∷ d ∷ e ∷ f ∷ g ∷ h ∷ rest) = omega (arith, few_words rest)
 few_words _ = omega arith
 
--- The number of bytes of n words of data, with their directive.
+-- the bytes of so many words of data, with their directive
 abbrev data_bytes : ℕ → ℕ
 data_bytes words = 6 + 19 * words + 6 * ((words + 7) / 8)
 
@@ -178,6 +178,6 @@ text_short most within p h =
 pub text_fits : AreSlotLinesWithin SLOT_LINE_LIMIT → (p : Program) → CanonicalTextFits p
 text_fits within p h = omega (arith, text_short SLOT_LINE_LIMIT within p h, few_words p.bytes, h.counts.bundles, h.counts.relations, h.counts.bytes)
 
--- The canonical text of a program is short enough to be read.
+-- And so it is short enough to be read.
 pub text_is_short : AreSlotLinesWithin SLOT_LINE_LIMIT → (p : Program) → CanonicalTextIsShort p
 text_is_short within p h = omega (arith, text_fits within p h)

@@ -16,7 +16,7 @@ plain_at [] k h less = absurd (omega (arith, less))
 plain_at (c ∷ cs) zero h less = left (is_plain_byte c) _ h
 plain_at (c ∷ cs) (suc k) h less = plain_at cs k (right (is_plain_byte c) _ h) (omega (arith, less))
 
--- A plain byte is no line feed.
+-- so it is neither a line feed nor a carriage return
 no_feed : (c : ℕ) → is_plain_byte c ≡ true → c ≢ 10
 no_feed c h = grind (arith, nat_tests)
 

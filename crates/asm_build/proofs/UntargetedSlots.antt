@@ -11,7 +11,7 @@ use Rattle.ia_program.specs.Fits.{Fits, FitsUnit, IsBranchSlot}
 use Rattle.asm_text.specs.ReadBack.{untargeted}
 use Rattle.asm_text.proofs.Untargeted.{aimed, aimed_a, aimed_i, aimed_m, aimed_b, aimed_f, aimed_x, aimed_nowhere}
 
--- The instruction as it is until the name of its target is put in.
+-- the instruction until the name of its target is put in
 abbrev pub until_named : Insn → Insn
 until_named i = record { qp = i.qp; op = untargeted i.op }
 

@@ -57,7 +57,7 @@ slot_line k n i stop = record { line = k; insn = until_named i; target = name_in
 abbrev opened : TemplateName → SlotLines → OpenBundle
 opened s ls = record { name = s; slots = ls }
 
--- The slots as they are until the names of their targets are put in.
+-- the slots until the names of their targets are put in
 abbrev pub slots_until : Slots → Slots
 slots_until (slots.Three a b c) = slots.Three (until_named a) (until_named b) (until_named c)
 slots_until (slots.Long a b) = slots.Long (until_named a) (until_named b)
@@ -115,7 +115,7 @@ three_goes say bs es rs ls k n template s a b c u v w units other f g h la lb lc
     (slot_goes say bs es rs ls (k + 1) n (opened s (lines.One first)) b (has_stop template 1) lb low tt g_)
     (slot_goes say bs es rs ls (k + 1 + 1) n (opened s (lines.Two first second)) c (has_stop template 2) lc low (short_of s u v w units other) h_))
 
--- The lines of a bundle with a long instruction are taken one after the other.
+-- and of a long instruction
 long_goes : SlotsSay → (bs : List BundleLines) (es : List EntryLine) (rs : List RelationLine) (ls : Labels) (k n template : ℕ) (s : TemplateName) (a b : Insn) (u v w : ExecutionUnit) → units_named s ≡ u ∷ v ∷ w ∷ []
     → Fits a u 0 → Fits b v 1 → IsListed a → IsListed b → n < 2 ^ 32
     → Goes (inside (opened s lines.Zero) bs es rs ls) k (slots_text n template (slots.Long a b))

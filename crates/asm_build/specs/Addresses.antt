@@ -7,7 +7,7 @@ use Rattle.ia_program.specs.Addresses.{bundle_address, data_address}
 use Rattle.asm_build.specs.declared.address.Address.{Address}
 use Rattle.asm_build.specs.declared.address.Address.TheVariants.{Bundle, Byte}
 
--- What a label names: the bundle with this number, or the byte of data at this position.
+-- what the label of a bundle names, and that of a byte of data
 abbrev pub of_bundle : ℕ → Address
 of_bundle n = Bundle n
 
@@ -23,7 +23,7 @@ abbrev pub IsReachable : Address → Type 0
 IsReachable (Bundle n) = n < reach
 IsReachable (Byte at) = at ≤ DATA_LIMIT
 
--- The address is a byte of data, or one of the first `count` bundles.
+-- a bundle that has the label is one of so many
 abbrev pub IsInside : ℕ → Address → Type 0
 IsInside count (Bundle n) = n < count
 IsInside count (Byte at) = ⊤

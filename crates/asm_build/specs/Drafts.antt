@@ -100,7 +100,7 @@ FitsNext o d = Fits (completed d (next_unit o)) (next_unit o) (count_of o.slots)
 abbrev pub FitsAt : TemplateName → ℕ → SlotLine → Type 0
 FitsAt s slot l = Fits l.insn (unit_at s slot) slot
 
--- The instruction of each slot line fits its slot.
+-- those of the slot lines fit their slots
 abbrev pub AreFitting : TemplateName → SlotLines → Type 0
 AreFitting s slots.Zero = ⊤
 AreFitting s (slots.One a) = FitsAt s 0 a
@@ -139,6 +139,6 @@ closed_as lines s = None
 abbrev pub closed : OpenBundle → Option BundleLines
 closed o = closed_as o.slots o.name
 
--- The slot lines give a whole bundle.
+-- they give one
 abbrev pub IsWhole : OpenBundle → Type 0
 IsWhole o = IsSomeAnd (closed o) (λ b. IsBundle b.bundle)

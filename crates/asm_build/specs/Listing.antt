@@ -17,7 +17,7 @@ abbrev pub IsBundleListing : ℕ → Bundle → List ℕ → Type 0
 IsBundleListing n b text =
     (bytes : List ℕ) × IsSpelled b bytes × (text ≡ head_listed n bytes b.template ++ slots_text n b.template b.slots)
 
--- The lines of bundles, the first of which is the n-th.
+-- those of bundles, the first of which is the n-th
 abbrev pub AreBundleListings : ℕ → List Bundle → List ℕ → Type 0
 AreBundleListings n [] text = text ≡ []
 AreBundleListings n (b ∷ bs) text =

@@ -11,7 +11,7 @@ use Rattle.ia_program.specs.Programs.{relations_at}
 use Rattle.ia_program.specs.Targets.{IsBundleAt}
 use Rattle.asm_build.specs.CanonicalText.{is_among, marked_text}
 
--- The marks of `bundle_count` bundles: exactly those with these numbers are marked.
+-- The marks of so many bundles: those of these numbers are marked.
 pub record AreMarks (bundle_count : ℕ) (numbers : List ℕ) (marks : List Bool) : Type 0 where
   pub count : length marks ≡ bundle_count
   pub each : (n : ℕ) → n < bundle_count → get_or marks n false ≡ is_among numbers n
@@ -26,12 +26,12 @@ pub record IsSound (count n : ℕ) (i : Insn) : Type 0 where
   pub listed : IsListed i
   pub target : IfSome (displacement i.op) (IsBundleAt count n)
 
--- Each instruction in the slots of the n-th of `count` bundles is listed and has its target among them.
+-- so are the instructions of its slots
 abbrev pub AreSound : ℕ → ℕ → Slots → Type 0
 AreSound count n (Three a b c) = IsSound count n a × (IsSound count n b × IsSound count n c)
 AreSound count n (Long first long) = IsSound count n first × IsSound count n long
 
--- Each instruction in each bundle is listed and has its target among the bundles.
+-- and those of each bundle
 abbrev pub AreAllSound : ℕ → List Bundle → Type 0
 AreAllSound count bundles = (n : ℕ) → IfSome (slice_get bundles n) (λ b. AreSound count n b.slots)
 

@@ -67,7 +67,7 @@ abbrev pub or_else : Option ℕ → Option ℕ → Option ℕ
 or_else None other = other
 or_else (Some line) other = Some line
 
--- The line of the first slot, in bundles from the n-th on, whose name means nothing that fits.
+-- the same of bundles, the first of which is the n-th
 abbrev pub unnamed_bundle : Labels → ℕ → List BundleLines → Option ℕ
 unnamed_bundle labels n [] = None
 unnamed_bundle labels n (b ∷ bs) = or_else (unnamed_slot labels n b) (unnamed_bundle labels (n + 1) bs)

@@ -8,7 +8,7 @@ pub data SlotLines : Type 0 where
   Two : SlotLine → SlotLine → SlotLines
   Three : SlotLine → SlotLine → SlotLine → SlotLines
 
--- The first of three slot lines: none, one or two of them, or all three.
+-- so many of these
 abbrev pub slots_of : ℕ → SlotLine → SlotLine → SlotLine → SlotLines
 slots_of zero a b c = Zero
 slots_of (suc zero) a b c = One a

@@ -22,7 +22,7 @@ relations_above bundle p [] = []
 relations_above bundle p (q ∷ qs) =
     if nat_lt p q then record { bundle = bundle; p = p; q = q } ∷ relations_above bundle p qs else relations_above bundle p qs
 
--- The relations of a bundle between each two of these predicates, the lower one first.
+-- those between each two of these predicates, the lower one first
 abbrev pub relations_among : ℕ → List ℕ → List Relation
 relations_among bundle ps = flat_map (λ p. relations_above bundle p ps) ps
 
@@ -31,11 +31,11 @@ abbrev pub with_relations : List Relation → List Relation → List Relation
 with_relations before [] = before
 with_relations before (r ∷ rs) = with_relations (insert_key relation_cmp before r) rs
 
--- The relations before a line, with those that the line declares.
+-- with those that a line declares
 abbrev pub related : List Relation → RelationLine → List Relation
 related before l = with_relations before (relations_among l.bundle l.predicates)
 
--- The relations before some lines, with those that these lines declare.
+-- and that lines declare
 abbrev pub all_related : List Relation → List RelationLine → List Relation
 all_related before [] = before
 all_related before (l ∷ ls) = all_related (related before l) ls

@@ -5,14 +5,14 @@ use Rattle.asm_build.specs.declared.limits.TheConstants.{TEXT_LIMIT}
 use Rattle.asm_build.specs.CanonicalText.{canonical_text}
 use Rattle.asm_build.specs.TextReading.{Reads}
 
--- The canonical text of a program reads as this program.
+-- the canonical text of a program reads as it
 abbrev pub CanonicalTextReads : Program → Type 0
 CanonicalTextReads p = IsProgram p → Reads (canonical_text p) p
 
--- The canonical text of a program is short enough to be read as a list of bytes.
+-- and is short enough to be read
 abbrev pub CanonicalTextIsShort : Program → Type 0
 CanonicalTextIsShort p = IsProgram p → length (canonical_text p) + 1 < 2 ^ 32
 
--- The canonical text of a program has at most as many bytes as a command takes.
+-- and fits in what a command takes
 abbrev pub CanonicalTextFits : Program → Type 0
 CanonicalTextFits p = IsProgram p → length (canonical_text p) ≤ TEXT_LIMIT

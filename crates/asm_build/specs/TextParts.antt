@@ -54,11 +54,11 @@ start = record { section = section.Text; current = None; bundles = []; entries =
 abbrev pub address_of : Labels → List ℕ → Option Address
 address_of labels name = lookup (is_at (slice_cmp nat_cmp name)) labels
 
--- The bytes of the numbers of a data line: `size` bytes of each, the lowest first.
+-- the numbers of a data line, each in so many bytes, the lowest first
 abbrev pub numbers_bytes : ℕ → List ℕ → List ℕ
 numbers_bytes size values = flat_map (λ v. take size (to_le_bytes w64 v)) values
 
--- What lines say, with another section.
+-- the same with another section, open bundle, labels or data
 abbrev pub turned : TextParts → Section → TextParts
 turned s section = record { section = section; current = s.current; bundles = s.bundles; entries = s.entries; relations = s.relations; labels = s.labels; bytes = s.bytes }
 
@@ -85,7 +85,7 @@ abbrev pub closed_of : Option OpenBundle → Option BundleLines
 closed_of None = None
 closed_of (Some o) = closed o
 
--- What a label in a section names: in text the address of what comes next, and in data the next byte.
+-- what a label that stands here names: in text what comes next, and in data the next byte
 abbrev pub place_in : Section → Address → List ℕ → Address
 place_in section.Text next bytes = next
 place_in section.Data next bytes = Byte (length bytes)
@@ -93,7 +93,7 @@ place_in section.Data next bytes = Byte (length bytes)
 abbrev pub place_before : TextParts → Address → Address
 place_before s next = place_in s.section next s.bytes
 
--- What a label that stands here names, where the next thing in text is a bundle.
+-- and what comes next is a bundle
 abbrev pub here : TextParts → Address
 here s = place_before s (Bundle (length s.bundles))
 
@@ -173,7 +173,7 @@ abbrev pub IsValueError : TextParts → ℕ → Line → TextError → Type 0
 IsValueError s n value e =
     (e ≡ error.Memory) ⊎ ((reason : Reason) × (e ≡ error.Fault n reason) × IsFirstFault (value_stages s value) reason)
 
--- Each label of the text names a byte of data, or one of the first `count` bundles.
+-- each label of the text is of one of so many
 abbrev pub AreLabelsBelow : ℕ → TextParts → Type 0
 AreLabelsBelow count s = AllByRecursion (IsInside count) (values_of s.labels)
 

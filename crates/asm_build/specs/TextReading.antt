@@ -34,8 +34,8 @@ SaysNothing line reason =
     ((LINE_LIMIT < length line) × (reason ≡ Limit))
     ⊎ ((length line ≤ LINE_LIMIT) × (e : LineFault) × FaultOf line e × (reason ≡ reason_of e))
 
--- A way to read texts line by line: what is said before any line (`start`), what the lines say with the n-th line (`after`), the
--- faults of a line that follows others (`stages`), and the faults of a text of n lines (`ends`).
+-- A way to read texts, line by line: what no lines say, what lines say after one more, the n-th, what is looked for in
+-- what a line says after those before it, and what is looked for after the last line, where so many were read.
 pub record LineReading (State : Type 0) : Type 1 where
   pub start : State
   pub after : State → ℕ → Line → State

@@ -22,7 +22,7 @@ use Rattle.asm_build.specs.TemplateNames.{template_of}
 use Rattle.asm_build.specs.TextParts.{numbers_bytes}
 use Rattle.asm_build.specs.TextReading.{text_lines, Says, Reads}
 
--- Each line of a text says its own value, by itself.
+-- Each line says its own of these, by itself.
 abbrev pub AreSaid : List (List ℕ) → List Line → Type 0
 AreSaid [] [] = ⊤
 AreSaid (bytes ∷ lines) (value ∷ values) = Says bytes value × AreSaid lines values
@@ -43,7 +43,7 @@ abbrev pub line_entry : Line → List (List ℕ)
 line_entry (line.Entry name) = name ∷ []
 line_entry value = []
 
--- The names of the labels that lines `.entry` have, in order.
+-- those on lines, in order
 abbrev pub entries_in : List Line → List (List ℕ)
 entries_in lines = flat_map line_entry lines
 
@@ -119,7 +119,7 @@ IsBundleSaid lines n (x ∷ y ∷ z ∷ []) name b =
     × IsInsnSaid lines n x first × IsInsnSaid lines n y second × IsInsnSaid lines n z third
 IsBundleSaid lines n slots name b = ⊥
 
--- Each bundle, from the n-th on, is the one that its slots and its template's name say.
+-- so is each of bundles, the first of which is the n-th
 abbrev pub AreBundlesSaid : List Line → ℕ → List (List SlotSaid × TemplateName) → List Bundle → Type 0
 AreBundlesSaid lines n [] [] = ⊤
 AreBundlesSaid lines n (said ∷ more) (b ∷ bs) = IsBundleSaid lines n said.0 said.1 b × AreBundlesSaid lines (n + 1) more bs
@@ -141,14 +141,14 @@ pub record IsRelationSaid (lines : List Line) (r : Relation) : Type 0 where
   pub higher : Contains predicates r.q
   pub apart : r.p < r.q
 
--- Each relation comes before the next one.
+-- Each relation comes before the next.
 abbrev pub RelationsRise : List Relation → Type 0
 RelationsRise relations = (n : ℕ) → n < length relations → IsRelationBefore (relation_before relations n) (relation_at relations n)
 
--- The lines say the program. Its bundles are those on the lines, in order. Its declared entries, which rise, are the bundles that
--- lines `.entry` name. Its data are those on the lines, in order, with zeros up to a multiple of eight. Its relations, which rise
--- and are of its entries, are those between each two predicates of the lines that declare them. Labels with one name name one
--- place, which in code is a bundle of the program.
+-- The lines say the program: its bundles are those on the lines, in order; its declared entries, which rise, are the
+-- bundles that lines `.entry` name; its data are those on the lines, in order, with zeros up to a multiple of eight; and
+-- its relations, which rise and are of its entries, are those between each two predicates of the lines that declare
+-- them. What labels with one name are names one place, which in code is a bundle of the program.
 pub record IsProgramSaid (lines : List Line) (p : Program) : Type 0 where
   pub bundles : AreBundlesSaid lines 0 (bundles_in lines) p.bundles
   pub rising : AreEntries (length p.bundles) p.entries

@@ -24,7 +24,7 @@ pub enum Address {
 }
 
 impl Address {
-    /// Whether the address is a byte of data, or one of the first `count` bundles.
+    /// Whether a bundle that has the label is one of so many.
     pub fn is_inside(&self, count: u32) -> bool
         ensures { IsTrue result ↔ IsInside count self.now }
     {

@@ -203,16 +203,16 @@ fn read(alloc: Global, text: &[u8]) -> Result<Program, TextError>
 pub fn assemble(alloc: Global, text: &[u8]) -> Result<Program, TextError>
     requires { length text.now + 1 < 2 ^ 32 }
 
-    // What is returned is what the text says.
+    // What is answered is what the text says.
     ensures found { IfOk result (Reads text.now) }
 
-    // What the text says is returned, so a fault comes only where it says no program.
+    // What the text says is answered, so a fault comes only where it says no program.
     ensures only { (p : ProgramOf) → Reads text.now p → (result ≡ Ok p) ⊎ (result ≡ Err error.Memory) }
 
     // The fault is the first one of the text.
     ensures fault { IfErr result (λ e. e ≢ error.Memory → HasTextFault text.now e) }
 
-    // A fault that the text has is returned, since it has no other.
+    // A fault that the text has is answered, since it has no other.
     ensures only_fault { (e : ErrorOf) → HasTextFault text.now e → (result ≡ Err e) ⊎ (result ≡ Err error.Memory) }
 {
     one_text_program();

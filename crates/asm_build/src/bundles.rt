@@ -124,7 +124,7 @@ fn push_head(out: &mut Vec<u8>, template: Template) -> Result<(), AllocError>
     )
 }
 
-/// The line `.entry` of a bundle, where it is a declared entry.
+/// That a bundle is a declared entry, where it is one.
 fn push_entry(out: &mut Vec<u8>, entry: bool, n: u32) -> Result<(), AllocError>
     ensures { OnOk result (out.new.items ≡ out.old.items ++ (if entry then line (codes ".entry " ++ label_text n) else [])) }
 {

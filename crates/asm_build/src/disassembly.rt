@@ -18,7 +18,7 @@ pub fn disassemble(alloc: Global, program: &Program) -> Result<Vec<u8>, AllocErr
     // The text is the canonical one.
     ensures canonical { IfOk result (λ text. text.items ≡ canonical_text program.now) }
 
-    // The text reads as the program, and can be given to `assemble`.
+    // It reads as the program, and can be given to `assemble`.
     ensures back { IfOk result (λ text. Reads text.items program.now × (length text.items + 1 < 2 ^ 32)) }
 {
     canonical_texts_are_read_back();

@@ -30,8 +30,9 @@ pub(crate) struct SlotLine {
     pub stop: bool,
 }
 
-/// A bundle that is not closed yet: the name of its template, and its slot lines so far, whose instructions fit their slots. Room
-/// for the lines is kept from bundle to bundle, so a count says how many there are. Contracts see the name and these lines.
+/// A bundle that is not closed yet: the name of its template, and its slot lines so far, whose instructions fit
+/// their slots. They stand in places that the next bundle uses again; of these, so many count. Contracts see the name and
+/// the lines that count.
 #[derive(Drop)]
 pub(crate) struct Open {
     name: TemplateName,

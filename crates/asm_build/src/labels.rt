@@ -52,7 +52,7 @@ fn mark_targets(marks: &mut Vec<bool>, n: u32, slots: &Slots)
     }
 }
 
-/// A mark for each of `count` bundles: set where the bundle is a declared entry.
+/// The marks of the declared entries among so many bundles.
 pub(crate) fn entry_marks(
     alloc: Global,
     count: usize,

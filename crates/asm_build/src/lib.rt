@@ -2,7 +2,7 @@
 //!
 //! [`assemble`] takes the lines of a text one by one: `text_parts` keeps what they say so far, with the bundle that
 //! is open in `draft`, and after the last line `names` puts in what labels name, and `relations` gathers the declared
-//! relations. It returns the program that the text says, or its first fault. [`disassemble`] gives the canonical text
+//! relations. It answers the program that the text says, or its first fault. [`disassemble`] gives the canonical text
 //! of a program, which reads as the program again, and [`list`] its bundles by their bytes.
 //!
 //! A text without bundles has labels, entries, relations and data too: [`TextParts`] keeps what such lines say, and is

@@ -266,7 +266,7 @@ impl TextParts {
         !self.is_open && self.section == Section::Text
     }
 
-    /// Takes the numbers on the n-th line, each in `size` bytes.
+    /// Takes the numbers on the n-th line, each in so many bytes.
     ///
     /// # Errors
     ///
@@ -288,7 +288,7 @@ impl TextParts {
         Ok(())
     }
 
-    /// Takes `count` zeros, on the n-th line.
+    /// Takes so many zeros, on the n-th line.
     ///
     /// # Errors
     ///
@@ -382,7 +382,7 @@ impl TextParts {
         self.are_labels_below(count)
     }
 
-    /// Whether each label of the text names a byte of data, or one of the first `count` bundles.
+    /// Whether each label of the text is of one of so many.
     pub fn are_labels_below(&self, count: u32) -> bool
         ensures { IsTrue result ↔ AreLabelsBelow count self.now }
     {

@@ -103,13 +103,13 @@ all_in_range [] [] h s = tt
 all_in_range (o ∷ os) (x ∷ xs) h s = (taken_in_range o.coding (operand_width o) x h.0 (both-right _ _ (both-left _ _ s)), all_in_range os xs h.1 (both-right _ _ s))
 all_in_range os xs h s = absurd h
 
--- The values of an instruction that a table lists are in their ranges.
+-- the values of an instruction that a table lists
 pub listed_in_range : (rows : List Row) (i : Insn) → is_table rows ≡ true → IsListedBy rows i → AllByRecursion IsInRange (values_of i)
 listed_in_range rows i h l =
     let r : Row = get_or rows l.1.place no_row in
     all_in_range (operands r) (values_of i) (l.1.row no_row).listed.takes (well_made r (table_made rows l.1.place no_row h l.1.inside)).sized
 
--- The values that an instruction is printed with are in their ranges.
+-- and those that they are printed as
 value_at_in_range : (xs : List Value) (n : ℕ) → AllByRecursion IsInRange xs → IsInRange (at xs n)
 value_at_in_range [] n h = tt
 value_at_in_range (x ∷ xs) zero h = h.0

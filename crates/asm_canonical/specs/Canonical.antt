@@ -56,20 +56,20 @@ abbrev pub negative : ℤ → Bool
 negative (pos n) = false
 negative (negsuc n) = true
 
--- A number by sign and magnitude.
+-- a number by sign and magnitude
 abbrev pub number : ℤ → Token
 number z = t.Number (negative z) (unsigned_abs z)
 
 abbrev pub natural : ℕ → Token
 natural n = t.Number false n
 
--- 0, or -1 for ones.
+-- 0, or -1 for ones
 abbrev pub ones_number : Bool → Token
 ones_number ones = if ones then t.Number true 1 else t.Number false 0
 
--- The forms that an opcode is printed with: one, or one for each size or choice that their stems tell.
+-- the forms that an opcode is printed with: one, or one for each size or choice that their stems tell
 abbrev pub forms_of : Opcode → List Form
--- A formats.
+-- A formats
 forms_of (o.Alu alu.Add) = form.Add ∷ []
 forms_of (o.Alu alu.Add1) = form.AddOne ∷ []
 forms_of (o.Alu alu.Sub) = form.Sub ∷ []
@@ -98,7 +98,7 @@ forms_of (o.CmpImm r kind) = form.CmpImmParallel ∷ form.Cmp4ImmParallel ∷ []
 forms_of (o.Lane lane_fn.Padd) = form.Padd1 ∷ form.Padd2 ∷ form.Padd4 ∷ []
 forms_of (o.Lane lane_fn.Psub) = form.Psub1 ∷ form.Psub2 ∷ form.Psub4 ∷ []
 forms_of (o.Lane f) = form.Pcmp1 ∷ form.Pcmp2 ∷ form.Pcmp4 ∷ []
--- I formats.
+-- I formats
 forms_of (o.ShiftVar shift.Shl) = form.Shl ∷ []
 forms_of (o.ShiftVar f) = form.Shr ∷ []
 forms_of o.Popcnt = form.Popcnt ∷ []
@@ -124,7 +124,7 @@ forms_of (o.MovToArImm a) = form.MovToArImmI ∷ []
 forms_of (o.MovFromAr ar.Unat) = form.MovFromArM ∷ []
 forms_of (o.MovFromAr a) = form.MovFromArI ∷ []
 forms_of o.Ext = form.Zxt1 ∷ form.Zxt2 ∷ form.Zxt4 ∷ form.Sxt1 ∷ form.Sxt2 ∷ form.Sxt4 ∷ []
--- M formats.
+-- M formats
 forms_of (o.Load kind update.None) = form.Ld1 ∷ form.Ld2 ∷ form.Ld4 ∷ form.Ld8 ∷ []
 forms_of (o.Load kind update.Reg) = form.Ld1Reg ∷ form.Ld2Reg ∷ form.Ld4Reg ∷ form.Ld8Reg ∷ []
 forms_of (o.Load kind update.Imm) = form.Ld1Imm ∷ form.Ld2Imm ∷ form.Ld4Imm ∷ form.Ld8Imm ∷ []
@@ -137,7 +137,7 @@ forms_of o.Invala = form.Invala ∷ []
 forms_of o.Mf = form.Mf ∷ []
 forms_of o.InvalaE = form.InvalaE ∷ []
 forms_of o.Alloc = form.Alloc ∷ []
--- B formats.
+-- B formats
 forms_of (o.Br branch.Cond) = form.BrCond ∷ []
 forms_of (o.Br kind) = form.BrLoop ∷ []
 forms_of o.BrCall = form.BrCall ∷ []
@@ -145,9 +145,9 @@ forms_of o.BrInd = form.BrInd ∷ []
 forms_of o.BrRet = form.BrRet ∷ []
 forms_of o.BrCallInd = form.BrCallInd ∷ []
 forms_of o.Clrrrb = form.Clrrrb ∷ form.ClrrrbPr ∷ []
--- X formats.
+-- X formats
 forms_of o.Movl = form.Movl ∷ []
--- The formats that every unit has.
+-- the formats that every unit has
 forms_of (o.Break unit.X) = form.BreakLong ∷ []
 forms_of (o.Break u) = form.BreakImm ∷ []
 forms_of (o.Nop unit.X) = form.NopLong ∷ []
@@ -179,11 +179,11 @@ is_said (said.Unit own) (o.Nop u) value = sameb unit_type own u
 is_said (said.Unit own) (o.Hint u) value = sameb unit_type own u
 is_said says x value = true
 
--- The values that a form has of its own are those of the instruction.
+-- the values that a form has of its own are those of the instruction
 abbrev pub has_fixed : List (Said × ℕ) → Opcode → (ℕ → Value) → Bool
 has_fixed fixed opcode x = list_all (λ s. is_said s.0 opcode (x s.1)) fixed
 
--- The form of an opcode and values: the first whose own values they are.
+-- the form of an opcode and values: the first whose own values they are
 abbrev pub form_of : Opcode → (ℕ → Value) → Form
 form_of opcode x = unwrap_or (find (λ f. has_fixed (row_of f).fixed opcode x) (forms_of opcode)) form.Data
 
@@ -192,7 +192,7 @@ form_of opcode x = unwrap_or (find (λ f. has_fixed (row_of f).fixed opcode x) (
 abbrev pub completer_of : CompleterSet → Opcode → Value → Completer
 completer_of s x value = unwrap_or (find (λ c. is_said c.says x value) (members s)) (record { suffix = Absent; says = Nothing })
 
--- The token that a value is printed as; a target is a name.
+-- the token that a value is printed as; a target is a name
 abbrev pub value_token : Value → Token
 value_token (v.Gr n) = t.Gr n
 value_token (v.Pr n) = t.Pr n
@@ -206,19 +206,19 @@ value_token (v.Short z) = number z
 value_token (v.Displacement z) = t.Name
 value_token v.Absent = t.OtherMark
 
--- The application register of an opcode.
+-- the application register of an opcode
 abbrev pub register_of : Opcode → Ar
 register_of (o.MovToAr a) = a
 register_of (o.MovToArImm a) = a
 register_of (o.MovFromAr a) = a
 register_of x = ar.Unat
 
--- The token of an operand: its value's, or an application register.
+-- the token of an operand: its value's, or an application register
 abbrev pub operand_of : Kind → Opcode → Value → Token
 operand_of k.Ar x value = t.Ar (register_of x)
 operand_of kind x value = value_token value
 
--- By the row of a form.
+-- by the row of a form
 abbrev pub syntax_by : Form → Opcode → List Value → Syntax
 syntax_by f x vs =
     syntax f (map (λ s. completer_of s.0 x (at vs s.1)) (row_of f).sets) (map (λ k. operand_of k.0 x (at vs k.1)) (operands (row_of f).items))
@@ -228,11 +228,11 @@ abbrev pub frame_values : (ℕ → Value) → List Value
 frame_values x =
     v.Absent ∷ x 1 ∷ v.Wide 0 ∷ v.Wide (small_of (x 3)) ∷ v.Wide (small_of (x 2) - small_of (x 3)) ∷ v.Wide (8 * small_of (x 4)) ∷ v.Absent ∷ []
 
--- The values as they are written.
+-- the values as they are written
 abbrev pub written : Opcode → List Value → List Value
 written o.Alloc vs = frame_values (at vs)
 written x vs = vs
 
--- How the instruction is printed; a target is a name.
+-- how the instruction is printed; a target is a name
 abbrev pub syntax_of : Op → Syntax
 syntax_of x = syntax_by (form_of (opcode_of x) (at (operands_of 0 x))) (opcode_of x) (written (opcode_of x) (operands_of 0 x))

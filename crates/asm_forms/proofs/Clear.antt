@@ -41,7 +41,7 @@ is_clear r q = not (bytes_eq r.stem q.stem) || (differ r.items q.items || never_
 pub all_clear : list_all (λ r. list_all (is_clear r) (take (place r.form) rows)) rows ≡ true
 all_clear = refl
 
--- The stem of the second row doesn't begin with that of the first and this rest, or the two have the same stem.
+-- and no two stems begin the same name
 abbrev pub is_other : List ℕ → FormRow → FormRow → Bool
 is_other rest r q = bytes_eq r.stem q.stem || not (begins (r.stem ++ rest) q.stem)
 

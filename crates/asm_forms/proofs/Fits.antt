@@ -30,7 +30,7 @@ spelled (Is mark ∷ is) xs h = rw (mark_is mark) (spelled is xs h)
 spelled (Takes kind n ∷ is) [] h = cc
 spelled (Takes kind n ∷ is) (x ∷ xs) h = rw (takes_printed kind x (left _ _ h)) (spelled is xs (right _ _ h))
 
--- The operands among the tokens that the items want are those given.
+-- and the operands among them are those given
 pub taken_back : (is : List FormItem) (xs : List Token) → fits is xs ≡ true → taken is (filled is xs) ≡ xs
 taken_back [] [] h = refl
 taken_back [] (x ∷ xs) h = cc

@@ -11,13 +11,13 @@ as_many xs rs e = count xs ∙ ap length e
     count [] = refl
     count (x ∷ xs) = ap suc (count xs)
 
--- A row among rows that others follow is found by its number.
+-- a row among others that follow
 among : (after : List FormRow) (xs : List Seen) (k : ℕ) (d : Seen) (e : FormRow) → k < length xs → seen (get_or xs k d) ≡ get_or (map seen xs ++ after) k e
 among after [] k d e h = absurd (omega (arith, h))
 among after (x ∷ xs) zero d e h = refl
 among after (x ∷ xs) (suc k) d e h = among after xs k d e (omega (arith, h))
 
--- A row among rows behind others is found by its number.
+-- and after others
 pub picked : (before here after : List FormRow) (xs : List Seen) (k at : ℕ) (d : Seen) (e : FormRow) → map seen xs ≡ here → k < length xs → at ≡ length before + k
     → seen (get_or xs k d) ≡ get_or (before ++ (here ++ after)) at e
 picked before here after xs k at d e m h p =

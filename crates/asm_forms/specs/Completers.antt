@@ -17,7 +17,7 @@ use Rattle.ia_insn.specs.declared.choices.StoreKind.TheVariants as store
 use Rattle.ia_insn.specs.declared.choices.BranchKind.TheVariants as branch
 use Rattle.ia_insn.specs.declared.choices.Unit.TheVariants as unit
 
--- The text of a suffix, with its dots.
+-- the text of a suffix, with its dots
 abbrev pub suffix_text : Suffix → List ℕ
 suffix_text s.Absent = []
 suffix_text s.Eq = codes ".eq"
@@ -75,7 +75,7 @@ suffix_text s.F = codes ".f"
 suffix_text s.B = codes ".b"
 suffix_text s.X = codes ".x"
 
--- The text of a completer.
+-- the text of a completer
 abbrev pub text_of : Completer → List ℕ
 text_of completer = suffix_text completer.suffix
 

@@ -13,11 +13,11 @@ use Rattle.asm_forms.specs.declared.items.NumberField.TheVariants.{Imm8, Less8, 
 use Rattle.ia_insn.specs.declared.registers.Ar.TheVariants as ar
 use Rattle.ia_program.specs.declared.limits.TheConstants.{DATA_LIMIT}
 
--- From -below to above.
+-- from -below to above
 abbrev pub within : Bool → ℕ → ℕ → ℕ → Bool
 within negative magnitude below above = if negative then nat_le magnitude below else nat_le magnitude above
 
--- The numbers that a field has room for, by sign and magnitude.
+-- the numbers that a field has room for, by sign and magnitude
 abbrev pub has_room : NumberField → Bool → ℕ → Bool
 has_room Imm8 s m = within s m 128 127
 has_room Less8 s m = within s m 127 128
@@ -43,7 +43,7 @@ has_room Data1 s m = within s m 128 255
 has_room Data2 s m = within s m 32768 65535
 has_room Data4 s m = within s m 2147483648 4294967295
 
--- The token that a mark is.
+-- the token that a mark is
 abbrev pub mark_token : Mark → Token
 mark_token m.Equals = t.Equals
 mark_token m.Comma = t.Comma
@@ -57,7 +57,7 @@ mark_token m.RotatingPredicates = t.RotatingPredicates
 mark_token m.Ip = t.Ip
 mark_token m.One = t.Number false 1
 
--- The token is the mark.
+-- the token is the mark
 abbrev pub is_mark : Mark → Token → Bool
 is_mark m.Equals t.Equals = true
 is_mark m.Comma t.Comma = true
@@ -72,7 +72,7 @@ is_mark m.Ip t.Ip = true
 is_mark m.One (t.Number false n) = n == 1
 is_mark _ _ = false
 
--- A label has any spelling of at most 63 bytes.
+-- a label has any spelling of at most 63 bytes
 abbrev pub is_label : Token → Bool
 is_label (t.Gr _) = true
 is_label (t.Pr _) = true
@@ -85,7 +85,7 @@ is_label t.Name = true
 is_label t.Symbol = true
 is_label _ = false
 
--- An operand of the kind is read from the token.
+-- an operand of the kind is read from the token
 abbrev pub takes : Kind → Token → Bool
 takes k.Gr (t.Gr _) = true
 takes k.Pr (t.Pr _) = true
@@ -95,38 +95,38 @@ takes (k.Number f) (t.Number s m) = has_room f s m
 takes k.Label x = is_label x
 takes _ _ = false
 
--- An item is read from the token.
+-- an item is read from the token
 abbrev pub accepts : FormItem → Token → Bool
 accepts (Is mark) x = is_mark mark x
 accepts (Takes kind n) x = takes kind x
 
--- The operands that the items take: their kinds, each with the number of its value.
+-- the operands that the items take: their kinds, each with the number of its value
 abbrev pub operands : List FormItem → List (Kind × ℕ)
 operands [] = []
 operands (Is mark ∷ is) = operands is
 operands (Takes kind n ∷ is) = (kind, n) ∷ operands is
 
--- The operands among the tokens of the items.
+-- the operands among the tokens of the items
 abbrev pub taken : List FormItem → List Token → List Token
 taken [] xs = []
 taken (i ∷ is) [] = []
 taken (Is mark ∷ is) (x ∷ xs) = taken is xs
 taken (Takes kind n ∷ is) (x ∷ xs) = x ∷ taken is xs
 
--- The tokens of the items with these operands.
+-- the tokens of the items with these operands
 abbrev pub filled : List FormItem → List Token → List Token
 filled [] xs = []
 filled (Is mark ∷ is) xs = mark_token mark ∷ filled is xs
 filled (Takes kind n ∷ is) [] = []
 filled (Takes kind n ∷ is) (x ∷ xs) = x ∷ filled is xs
 
--- An operand of the kind is printed as the token: a label as a name that is no register.
+-- an operand of the kind is printed as the token: a label as a name that is no register
 abbrev pub prints : Kind → Token → Bool
 prints k.Label t.Name = true
 prints k.Label _ = false
 prints kind x = takes kind x
 
--- The operands are of the kinds that the items take, one by one, as they are printed.
+-- the operands are of the kinds that the items take, one by one, as they are printed
 abbrev pub fits : List FormItem → List Token → Bool
 fits [] [] = true
 fits [] (x ∷ xs) = false
@@ -156,7 +156,7 @@ abbrev pub is_label_item : FormItem → Bool
 is_label_item (Takes k.Label n) = true
 is_label_item _ = false
 
--- The token is a name that begins with a letter.
+-- the token is a name that begins with a letter
 abbrev pub begins_with_letter : Token → Bool
 begins_with_letter (t.Gr _) = true
 begins_with_letter (t.Pr _) = true
@@ -169,7 +169,7 @@ begins_with_letter t.Name = true
 begins_with_letter t.LongName = true
 begins_with_letter _ = false
 
--- The token is a name of more than 63 bytes.
+-- the token is a name of more than 63 bytes
 abbrev pub is_long_name : Token → Bool
 is_long_name t.LongName = true
 is_long_name t.LongSymbol = true

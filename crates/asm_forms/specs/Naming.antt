@@ -7,12 +7,12 @@ use Rattle.asm_forms.specs.declared.form.Form.{Form}
 use Rattle.asm_forms.specs.Completers.{text_of, members}
 use Rattle.asm_forms.specs.Rows.{FormRow, rows, row_of}
 
--- A dot or nothing follows.
+-- a dot or nothing follows
 abbrev pub ends_part : List ℕ → Bool
 ends_part [] = true
 ends_part (c ∷ cs) = c == 46
 
--- The name begins with the text, as a part of its own.
+-- the name begins with the text, as a part of its own
 abbrev pub begins : List ℕ → List ℕ → Bool
 begins name text = starts_with nat_eq name text && ends_part (drop (length text) name)
 
@@ -24,7 +24,7 @@ abbrev pub and_more : Option Completer → (Completer → Option (List Completer
 and_more None more = None
 and_more (Some c) more = option_map (λ cs. c ∷ cs) (more c)
 
--- One completer of each set, one after the other, and nothing after them.
+-- one completer of each set, one after the other, and nothing after them
 abbrev pub completers_in : List (CompleterSet × ℕ) → List ℕ → Option (List Completer)
 completers_in [] name = none_left name
 completers_in (s ∷ ss) name =
@@ -34,19 +34,19 @@ abbrev pub has_completers_if : Bool → List (CompleterSet × ℕ) → List ℕ 
 has_completers_if false sets name = false
 has_completers_if true sets name = is_some (completers_in sets name)
 
--- The name is the row's stem and completers.
+-- the name is the row's stem and completers
 abbrev pub is_named : List ℕ → FormRow → Bool
 is_named name r = has_completers_if (begins name r.stem) r.sets (drop (length r.stem) name)
 
--- The forms whose stems and completers this name is, in their order.
+-- the forms whose stems and completers this name is, in their order
 abbrev pub named_forms : List ℕ → List Form
 named_forms name = map (λ r. r.form) (filter (is_named name) rows)
 
--- The completers of the form in a name that its stem begins.
+-- the completers of the form in a name that its stem begins
 abbrev pub completers : Form → List ℕ → Option (List Completer)
 completers f name = completers_in (row_of f).sets (drop (length (row_of f).stem) name)
 
--- One completer of each set.
+-- one completer of each set
 abbrev pub AreChosen : List (CompleterSet × ℕ) → List Completer → Type 0
 AreChosen [] [] = Unit {0}
 AreChosen (s ∷ ss) (x ∷ xs) = Contains (members s.0) x × AreChosen ss xs

@@ -11,11 +11,11 @@ use Rattle.asm_forms.specs.declared.items.FormItem.{FormItem}
 use Rattle.asm_forms.specs.declared.rows.RowOf.{RowOf}
 use Rattle.asm_forms.specs.declared.rows.TheConstants.{ROWS_TO_B, ROWS_C_TO_I, ROWS_L_TO_N, ROWS_O_TO_R, ROWS_FROM_S}
 
--- A row of the table of forms, with its parts as lists.
+-- a row with its lists,
 abbrev pub FormRow : Type 0
 FormRow = RowOf (List ℕ) (List (CompleterSet × ℕ)) (List FormItem) (List (Said × ℕ))
 
--- A row as a function sees it, which has only borrowed the parts, and as it stands in the table.
+-- as a function has it, and as it stands in the table
 abbrev pub Seen : Type 0
 Seen = RowOf (Bor (List ℕ)) (Bor (List (CompleterSet × ℕ))) (Bor (List FormItem)) (Bor (List (Said × ℕ)))
 
@@ -28,12 +28,12 @@ seen r = record { form = r.form; stem = r.stem.now; sets = r.sets.now; items = r
 abbrev pub listed : Listed → FormRow
 listed r = record { form = r.form; stem = r.stem.now; sets = r.sets.now; items = r.items.now; opcode = r.opcode; fixed = r.fixed.now }
 
--- Each number is that of a value.
+-- each number is that of a value
 abbrev pub AreValues : {A : Type 0} → List (A × ℕ) → Type 0
 AreValues [] = Unit {0}
 AreValues (x ∷ xs) = (x.1 < 7) × AreValues xs
 
--- The rows by the first letters of their stems.
+-- the rows by the first letters of their stems
 abbrev pub rows_to_b : List FormRow
 rows_to_b = map listed ROWS_TO_B
 
@@ -49,20 +49,20 @@ rows_o_to_r = map listed ROWS_O_TO_R
 abbrev pub rows_from_s : List FormRow
 rows_from_s = map listed ROWS_FROM_S
 
--- All rows.
+-- all rows
 abbrev pub rows : List FormRow
 rows = rows_to_b ++ rows_c_to_i ++ rows_l_to_n ++ rows_o_to_r ++ rows_from_s
 
 abbrev pub first_row : FormRow
 first_row = record { form = form.Data; stem = []; sets = []; items = []; opcode = None; fixed = [] }
 
--- A form's place among the forms is that of its row among the rows.
+-- a form's place among the forms is that of its row among the rows
 abbrev pub place : Form → ℕ
 place f = tag_of the_type f
 
 abbrev pub row_of : Form → FormRow
 row_of f = slice_index_or rows (place f) first_row
 
--- The form is an instruction's, and no directive's.
+-- the form is an instruction's, and no directive's
 abbrev pub is_instruction : Form → Bool
 is_instruction f = is_some (row_of f).opcode

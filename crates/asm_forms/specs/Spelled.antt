@@ -6,6 +6,6 @@ use Rattle.asm_forms.specs.declared.form.Form.{Form}
 use Rattle.asm_forms.specs.Items.{accepts}
 use Rattle.asm_forms.specs.Rows.{row_of}
 
--- The operands are those of the form, one by one.
+-- the operands are those of the form, one by one
 abbrev pub is_spelled : List Token → Form → Bool
 is_spelled operands form = pointwise accepts (row_of form).items operands

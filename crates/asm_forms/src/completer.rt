@@ -179,7 +179,7 @@ impl Default for Completer {
 /// A place for a completer: which may stand there.
 #[derive(Clone, Copy)]
 pub enum CompleterSet {
-    /// This completer alone.
+    /// This one.
     Only(Completer),
     /// `.eq`, `.lt` or `.ltu`: a compare as the machine has it (crel).
     Relation,

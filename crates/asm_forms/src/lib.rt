@@ -1,11 +1,11 @@
 //! The forms of assembly lines: which stems lead a line, and which completers and operands each form has.
 //!
-//! A line is a mnemonic, which is a stem and its completers, and operands (volume 3, chapter 2, the assembly syntax of each
-//! instruction). What there is is data: `rows` has a row a form, with the stem that leads a line of the form, the sets of its
-//! completers, what stands after it, its opcode and which value stands where, and `completer` has the completers of each set and
-//! what each says. Everything else goes by the rows: `naming` reads a mnemonic, `items` says from which tokens an item is read,
-//! `spelling` finds the form of a mnemonic and operands at once, and `operands` takes the operands from between a form's marks.
-//! Where a line's first fault is, is said one crate above (`asm_matching`).
+//! A line is a mnemonic, which is a stem and its completers, and operands (volume 3, chapter 2, the assembly syntax
+//! of each instruction). What there is is data: `rows` has a row a form, with the stem that leads a line of
+//! the form, the sets of its completers, what stands after it, its opcode and which value stands where, and
+//! `completer` has the completers of each set and what each says. Everything else goes by the rows: `naming` reads a
+//! mnemonic, `items` says from which tokens an item is read, `spelling` finds the form of a mnemonic and operands at
+//! once, and `operands` takes the operands from between a form's marks. Where a line's first fault is, is said one crate above (`asm_matching`).
 #![tactic(auto)]
 
 mod choices;

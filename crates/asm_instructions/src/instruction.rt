@@ -88,7 +88,7 @@ fn moving_by_row(row: &Row, tokens: &[Token], opcode: Opcode) -> Opcode
     moving_by(&taken(row.items(), tokens), opcode)
 }
 
-/// The opcode with the application register that is among the operands of the line. Only moves have application registers.
+/// The same; only moves have application registers.
 #[tactic(auto, using(crate::proofs::OtherOperands::others_stay))]
 fn moved(row: &Row, tokens: &[Token], opcode: Opcode) -> Opcode
     ensures { result ≡ moving_by (taken (row_of row.now).items tokens.now) opcode }

@@ -31,7 +31,7 @@ turn line at more sharp ws new k h b m ek em es en =
     let joined : F (at + 1 + more + sharp) (drop (at + 1 + more + sharp) line) ≡ F (at + 1 + (more_at c cs + sharp_at c cs)) (drop (more_at c cs + sharp_at c cs) cs) = rw (rest, reach) refl in
     left ∙ joined ∙ ap (λ x. ws ++ x) (sym (at_drop_more (lexemes_from 0 at) line at 0 h ∙ turn_at c cs at b m))
 
--- A step of cutting a line into lexemes, where the rest of the line is `rest`.
+-- The same, where the rest of the line is `rest`.
 pub turn_rest : (line rest : List ℕ) (at more sharp : ℕ) (ws new : List Lexeme) (k : LexemeKind) → at < length line → rest ≡ drop (at + 1) line → is_blank (get_or line at 0) ≡ false → begins_comment (get_or line at 0) rest ≡ false
     → k ≡ kind_at (get_or line at 0) rest → more ≡ more_at (get_or line at 0) rest → sharp ≡ sharp_at (get_or line at 0) rest
     → new ≡ ws ++ record { kind = k; start = at; end = at + 1 + more } ∷ []

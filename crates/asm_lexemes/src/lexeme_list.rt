@@ -8,7 +8,7 @@ use crate::lexeme::Lexeme;
 use crate::limits::LINE_LIMIT;
 use std::marker::Model;
 
-/// The lexemes of a line. Room for them is kept from line to line, so a count says how many there are. Contracts see these.
+/// The lexemes of a line, in places that the next line uses again; of these, so many count. Contracts see those that count.
 #[derive(Debug, Drop)]
 pub struct LexemeList {
     places: [Lexeme; LINE_LIMIT],

@@ -18,13 +18,13 @@ abbrev pub is_stop_next : List Token → Bool
 is_stop_next [] = false
 is_stop_next (x ∷ xs) = is_stop x
 
--- How many tokens at the front the items agree on.
+-- on how many tokens at the front the items agree
 abbrev pub agreed_items : List FormItem → List Token → ℕ
 agreed_items [] tokens = 0
 agreed_items (i ∷ is) [] = 0
 agreed_items (i ∷ is) (x ∷ xs) = if accepts i x then agreed_items is xs + 1 else 0
 
--- How many tokens a form's items agree on, and one more where all of them agree and a stop follows.
+-- and on a stop too where it stands after all of them
 unfoldable pub agreed : List FormItem → List Token → ℕ
 agreed items tokens =
     let at = agreed_items items tokens in

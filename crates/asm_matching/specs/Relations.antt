@@ -33,7 +33,7 @@ abbrev pub is_comma : Token → Bool
 is_comma t.Comma = true
 is_comma _ = false
 
--- A predicate is wanted behind the first `at` tokens: behind `"mutex"` and each comma.
+-- after so many tokens a predicate is wanted: after each comma
 abbrev pub wants_predicate : ℕ → Bool
 wants_predicate at = nat_le 2 at && (at % 2 == 0)
 

@@ -74,7 +74,7 @@ fn is_comma(token: Token) -> bool
     matches!(token, Token::Comma)
 }
 
-/// Whether a predicate is wanted behind the first `at` tokens.
+/// Whether a predicate is wanted after so many tokens.
 fn wants_predicate(at: usize) -> bool
     ensures { result ≡ wants_predicate at }
 {

@@ -24,7 +24,7 @@ use Rattle.ia_insn.specs.Displacements.{displacement}
 use Rattle.ia_insn.specs.RegisterTexts.{gr_text, pr_text, br_text}
 use Rattle.asm_canonical.specs.Canonical.{syntax_of}
 
--- The fields whose numbers are printed in hexadecimal: masks, and the numbers of movl, break, nop and hint.
+-- the fields whose numbers are printed in hexadecimal: masks, and the numbers of movl, break, nop and hint
 abbrev is_hex_field : NumberField → Bool
 is_hex_field field.Mask = true
 is_hex_field field.Imm21 = true
@@ -42,12 +42,12 @@ ar_text ar.Pfs = codes "ar.pfs"
 ar_text ar.Lc = codes "ar.lc"
 ar_text ar.Ec = codes "ar.ec"
 
--- A number in decimal, or after `0x` in hexadecimal.
+-- a number in decimal, or after `0x` in hexadecimal
 abbrev pub number_text : Bool → Bool → ℕ → List ℕ
 number_text true negative m = (if negative then 45 ∷ [] else []) ++ 48 ∷ 120 ∷ digits 16 false m
 number_text false negative m = (if negative then 45 ∷ [] else []) ++ decimal m
 
--- The label of a bundle.
+-- the label of a bundle
 abbrev pub label_text : ℕ → List ℕ
 label_text n = 76 ∷ decimal n
 
@@ -68,14 +68,14 @@ token_text target hex t.OpenBracket = codes "["
 token_text target hex t.CloseBracket = codes "]"
 token_text target hex _ = []
 
--- The marks and the operands of a form, item by item.
+-- the marks and the operands of a form, item by item
 abbrev pub operands_text : ℕ → List FormItem → List Token → List ℕ
 operands_text target [] xs = []
 operands_text target (Is mark ∷ is) xs = token_text target false (mark_token mark) ++ operands_text target is xs
 operands_text target (Takes kind n ∷ is) [] = []
 operands_text target (Takes kind n ∷ is) (x ∷ xs) = token_text target (is_hex kind) x ++ operands_text target is xs
 
--- After one space, where there are operands.
+-- after one space, where there are operands
 abbrev pub spaced : List ℕ → List ℕ
 spaced [] = []
 spaced (c ∷ cs) = 32 ∷ c ∷ cs
@@ -93,7 +93,7 @@ abbrev pub natural_of : ℤ → ℕ
 natural_of (pos n) = n
 natural_of (negsuc n) = 0
 
--- The bundle of the target of a direct branch or check that stands in the bundle.
+-- the bundle of the target of a direct branch or check that stands in the bundle
 abbrev pub target_of : ℕ → Op → Option ℕ
 target_of bundle x = option_map (λ disp. natural_of (pos bundle +ℤ disp)) (displacement x)
 
@@ -101,16 +101,16 @@ abbrev pub or_zero : Option ℕ → ℕ
 or_zero None = 0
 or_zero (Some n) = n
 
--- The target, where there is one, is no bundle before the first.
+-- the target, where there is one, is no bundle before the first
 abbrev pub HasTarget : ℕ → Op → Type 0
 HasTarget bundle x = IfSome (displacement x) (λ disp. pos 0 ≤ℤ (pos bundle +ℤ disp))
 
--- A slot line by its target, its predicate, and the form, the completers and the operands of its instruction.
+-- a slot line by its target, its predicate, and the form, the completers and the operands of its instruction
 abbrev pub line_text : ℕ → ℕ → Form → List Completer → List Token → Bool → List ℕ
 line_text target qp form completers operands stop =
     codes "  " ++ predicate_text qp ++ mnemonic_text form completers ++ spaced (operands_text target (row_of form).items operands) ++ stop_text stop
 
--- The slot line of an instruction in a bundle, without its line feed.
+-- the slot line of an instruction in a bundle, without its line feed
 abbrev pub slot_text : Insn → ℕ → Bool → List ℕ
 slot_text insn bundle stop =
     line_text (or_zero (target_of bundle insn.op)) insn.qp (syntax_of insn.op).form (syntax_of insn.op).completers (syntax_of insn.op).operands stop

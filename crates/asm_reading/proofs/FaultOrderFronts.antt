@@ -137,7 +137,7 @@ relation_within : (before xs : List Token) → agreed_relation before xs ≤ len
 relation_within before [] = omega arith
 relation_within before (x ∷ xs) = more_at_most (may_follow before x) _ _ (relation_within (before ++ x ∷ []) xs)
 
--- How many tokens are right in a front: of numbers, of predicates and commas, and of the items of forms.
+-- all of them
 right_front : (z : Operands) (forms : List Form) (n : ℕ) (xs : List Token) → right_count z forms (take n xs) ≡ min n (right_count z forms xs)
 right_front (Numbers z) forms n xs = data_front (data_field z) 0 n xs
 right_front Predicates forms n xs = relation_front [] n xs
@@ -167,7 +167,7 @@ token_front [] (suc n) at less = refl
 token_front (x ∷ xs) (suc n) zero less = refl
 token_front (x ∷ xs) (suc n) (suc at) less = token_front xs n at (omega (arith, less))
 
--- The fault at a token is the same where the tests that it goes by and the token are the same.
+-- so the fault is the same
 same_fault_at : (a b c d e f : Bool) (o p : Option Token) → a ≡ b → c ≡ d → e ≡ f → o ≡ p → fault_at a c e o ≡ fault_at b d f p
 same_fault_at a b c d e f o p h k l m = rw (h, k, l, m) refl
 
@@ -259,7 +259,7 @@ spelled_all xs f h = rw (agreed_walked (row_of f).items xs) (spelled_within (row
 pub spelled_with_stop : (xs : List Token) (f : Form) → is_spelled (without_stop xs) f ≡ true → length xs ≤ agreed (row_of f).items xs
 spelled_with_stop xs f h = rw (agreed_walked (row_of f).items xs) (or_stop (row_of f).items xs (ends_in_stop xs) refl h)
 
--- Some form has all the tokens where one of the forms is found, whether that is the first one or one of the rest.
+-- and so the forms have them all where one of them is found
 found_here : (b : Bool) (f g : Form) (o : Option Form) (n a r : ℕ) → (b ≡ true → n ≤ a) → (o ≡ Some g → n ≤ r) → cond b (Some f) o ≡ Some g → n ≤ max a r
 found_here true f g o n a r h k e = let l : n ≤ a = h refl in omega (arith, l)
 found_here false f g o n a r h k e = let l : n ≤ r = k e in omega (arith, l)

@@ -133,7 +133,7 @@ beside_fault bytes b e has found =
 pub before_decides : (bytes : List ℕ) (b : Beside) (e : LineFault) → HasBeside bytes b → fault_before b ≡ Some e → FaultOf bytes e
 before_decides bytes b e has is = beside_fault bytes b e has (inl (e, refl, is))
 
--- The tokens up to and with one of them.
+-- the tokens up to one of them
 front_with : (xs : List Token) (x : Token) (ys : List Token) → take (suc (length xs)) (xs ++ x ∷ ys) ≡ xs ++ x ∷ []
 front_with [] x ys = refl
 front_with (y ∷ xs) x ys = ap (λ l. y ∷ l) (front_with xs x ys)
@@ -145,7 +145,7 @@ token_decides bytes b xs rest x has before is right wrong =
     let more : take (length xs + 1) b.after ≡ xs ++ x ∷ [] = rw (is, add-one (length xs)) (front_with xs x rest) in
     beside_fault bytes b _ has (inr (before, inl (length xs, rw more refl, record { right = rw front right; wrong = rw more wrong })))
 
--- Where no fault comes before the last stage, the line has a value or the fault Form.
+-- and where it finds nothing, the line has a value or the fault Form
 pub form_last : (bytes : List ℕ) (b : Beside) → HasBeside bytes b → fault_before b ≡ None → AreRight b.forms b.after → HasValue bytes ⊎ FaultOf bytes fault.Form
 form_last bytes b has before after = elim (line_or_fault bytes) [
   | inl says ↦ inl says

@@ -50,13 +50,13 @@ label_missing line [] [] few = refl
 label_missing line (i ∷ is) [] few = refl
 label_missing line is (w ∷ ws) few = absurd (omega (arith, few))
 
--- The name of the label is among the lexemes behind one that is another item's.
+-- and is among the lexemes after one at another item
 pub label_later : (line : List ℕ) (is : List FormItem) (ws rest : List Lexeme) (k : ℕ) (d : FormItem) → k < length is → 1 ≤ length ws → is_label_item (get_or is k d) ≡ false → rest ≡ drop 1 ws
     → label_name (drop (k + 1) is) (texts line rest) ≡ label_name (drop k is) (texts line ws)
 label_later line is [] rest k d there some other e = absurd (omega (arith, some))
 label_later line is (w ∷ ws) rest k d there some other e = rw (e, add-one, drop-cons is k d there, other) refl
 
--- The lexemes after the first are parts of the line too.
+-- those after the first are parts of the line too
 pub parts_later : (line : List ℕ) (ws rest : List Lexeme) → AreParts line ws → rest ≡ drop 1 ws → AreParts line rest
 parts_later line [] rest all e = rw e (λ k d there. absurd (omega (arith, there)))
 parts_later line (w ∷ ws) rest all e = rw e (λ k d there. all (suc k) d (omega (arith, there)))

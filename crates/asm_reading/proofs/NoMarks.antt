@@ -81,7 +81,7 @@ or_other_no_mark None name h = other_no_mark name
 name_no_mark : (name : List ℕ) → is_mark (name_token name) ≡ false
 name_no_mark name = or_other_no_mark (register_of name) name (or_numbered_no_mark (alias_of name) name (look_no_mark aliases name refl))
 
--- A name is no opening parenthesis.
+-- so it is neither parenthesis, and no colon
 not_open : (x : Token) → is_mark x ≡ false → is_open x ≡ false
 not_open t.OpenParenthesis h = cc
 not_open x h = refl

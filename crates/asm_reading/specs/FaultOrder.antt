@@ -142,10 +142,9 @@ after_stage b = first ℕ (fault_of_token b.forms b.after) (IsFirstWrong b.forms
 abbrev pub HasValue : List ℕ → Type 0
 HasValue bytes = (value : Line) × LineOf bytes value
 
--- The stages of a line, in the order in which its first fault is looked for: a byte that is none of a line's; a leading lexeme
--- that names nothing; a fault before that lexeme; the first wrong token after it; and that the line says nothing all the same.
--- The last comes where an operand is missing, the instruction isn't listed, no label has such a name, or a stop follows a
--- directive.
+-- What is looked for in a line, in this order: a byte that is none of a line's, a leading lexeme that names
+-- nothing, a fault before that lexeme, the first wrong token after it, and that the line says nothing all the same:
+-- an operand is missing, the instruction isn't listed, no label has such a name, or a stop follows a directive.
 abbrev pub line_stages : List ℕ → List (Stage LineFault)
 line_stages bytes =
     unless (IsTrue (has_only_plain bytes)) fault.Char

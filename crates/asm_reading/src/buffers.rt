@@ -8,8 +8,8 @@ use asm_lexemes::limits::LINE_LIMIT;
 use asm_lexemes::{LexemeList, Token};
 use std::marker::Model;
 
-/// The tokens of a line or of a part of it. Room for them is kept from line to line, so a count says how many there are.
-/// Contracts see these.
+/// The tokens of a line or of a part of it, in places that the next line uses again; of these, so many count. Contracts
+/// see those that count.
 #[derive(Debug, Drop)]
 pub(crate) struct Tokens {
     places: [Token; LINE_LIMIT],

@@ -51,7 +51,7 @@ fn agreed_data(field: NumberField, tokens: &[Token]) -> usize
     at
 }
 
-/// A number of this sign modulo 2 to the power of its bits, those of `size` bytes.
+/// A number of this sign modulo what so many bytes hold.
 fn wrapped(size: AccessSize, negative: bool, magnitude: u64) -> u64
     ensures { result ≡ wrapped (2 ^ (8 * bytes size)) negative magnitude }
 {
@@ -69,7 +69,7 @@ fn wrapped(size: AccessSize, negative: bool, magnitude: u64) -> u64
     }
 }
 
-/// The number that a token is, modulo 2 to the power of the bits of `size` bytes.
+/// The number that a token is, modulo what so many bytes hold.
 fn number_of(size: AccessSize, token: Token) -> u64
     ensures { result ≡ wrapped (2 ^ (8 * bytes size)) (is_negative token) (magnitude token) }
 {

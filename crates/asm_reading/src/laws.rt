@@ -36,9 +36,9 @@ pub fn char_comes_first()
     ensures { (bytes : List ℕ) → FaultOf bytes fault.Char ↔ (has_only_plain bytes ≡ false) }
 {}
 
-/// The law that the first fault of a line is the first that is found in one order of stages: the bytes of the line, its leading
-/// lexeme, what stands before that, the tokens after it from left to right, and what is left. A line says something exactly where
-/// none of the stages finds a fault. It does nothing.
+/// The law that the first fault of a line is the first that is found in one order of stages, and that a line says
+/// something exactly where none of them finds a fault: the bytes of the line, its leading lexeme, what stands before
+/// that, the tokens after it from left to right, and what is left. It does nothing.
 pub fn faults_in_order()
     ensures fault { (bytes : List ℕ) (e : LineFault) → FaultOf bytes e ↔ IsFirstFault (line_stages bytes) e }
     ensures value { (bytes : List ℕ) → HasValue bytes ↔ ArePassed (line_stages bytes) }

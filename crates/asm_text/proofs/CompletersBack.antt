@@ -31,7 +31,7 @@ is_value (said.Small n) = true
 is_value (said.Mask n) = true
 is_value _ = false
 
--- A completer that says a value says the one of which it is said.
+-- it is the value of which it is said
 pub said_is : (s : Said) (x : Opcode) (value : Value) → is_value s ≡ true → is_said s x value ≡ true → said_value s ≡ value
 said_is (said.Flag true) x (v.Flag true) h e = refl
 said_is (said.Flag false) x (v.Flag false) h e = refl
@@ -52,7 +52,7 @@ value_rests (said.Small n) = refl
 value_rests (said.Mask n) = refl
 value_rests s = refl
 
--- A completer that says a value says nothing of an opcode or a unit.
+-- it says nothing of an opcode or a unit
 value_leaves : (s : Said) (x : Opcode) → is_value s ≡ true → completed s x ≡ Some x
 value_leaves (said.Flag b) x h = refl
 value_leaves (said.Small n) x h = refl

@@ -178,7 +178,7 @@ opcode_agrees os q =
 abbrev pub row_agrees : Row → Bool
 row_agrees r = opcode_agrees (operands r) r.opcode
 
--- The forms that the instructions of a row may have, where each reads its opcode.
+-- and each reads its opcode
 abbrev pub forms_had : List Operand → Opcode → List Form
 forms_had os q = filter (λ f. not (is_apart q) && may_have os q f) (forms_of q)
 
@@ -264,7 +264,7 @@ of_opcode os x t apart agreed back =
 of_row_back : (r : Row) (i : Insn) (w : ℕ) → IsOfRow r i w → is_apart (opcode_of i.op) ≡ false → row_agrees r ≡ true → map (λ f. begun (row_of f) r.opcode) (forms_had (operands r) r.opcode) ≡ map (λ f. Some r.opcode) (forms_had (operands r) r.opcode) → ReadsBack i.op
 of_row_back r i w m apart agreed back = of_opcode (operands r) i.op (taken_under_zero (operands r) i m.listed.takes) apart (rw m.opcode at agreed) (rw m.opcode at back)
 
--- Each instruction of a table whose rows agree with their forms is read back.
+-- and so is each of a table whose rows do
 pub listed_back : (rs : List Row) (i : Insn) → list_all row_agrees rs ≡ true → OpcodesBack rs → IsListedBy rs i → is_apart (opcode_of i.op) ≡ false → ReadsBack i.op
 listed_back rs i h b l apart =
     of_row_back (get_or rs l.1.place no_row) i l.0 (l.1.row no_row) apart (all_get row_agrees rs l.1.place no_row l.1.inside h)

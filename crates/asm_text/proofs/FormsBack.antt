@@ -329,7 +329,7 @@ same_op : (o : Opcode) (x y : ℕ → Value) → x 1 ≡ y 1 → x 2 ≡ y 2 →
 same_op o.Mf x y a b d e f g = refl
 same_op o x y a b d e f g = cc
 
--- With the values that are read, the operation is the one that was printed, but for its target.
+-- and with the values that are read it is the one that was printed
 rests : (x : Op) → op_with (opcode_of x) (λ n. resting (at (operands_of 0 x) n)) ≡ untargeted x
 rests (op.Load size kind hint r1 r3 update.None) = refl
 rests (op.Load size kind hint r1 r3 u) = refl
@@ -370,6 +370,6 @@ read_by os x r h b t e =
     ∙ ap (option_map (λ y. op_with y (at w))) b
     ∙ ap Some (same_op o (at w) (λ m. resting (z m)) (each 0 n1) (each 1 n2) (each 2 n3) (each 3 n4) (each 4 n5) (each 5 n6) ∙ rests x)
 
--- The operands of what is printed by a row that agrees fit the items.
+-- and its operands fit the items
 pub fit_by : (os : List Operand) (o : Opcode) (r : FormRow) (x : ℕ → Value) → agrees os o r ≡ true → AreTaken os x → fits r.items (map (λ s. operand_of s.0 o (x s.1)) (form_operands r.items)) ≡ true
 fit_by os o r x h t = fit_all r.items (tokens_by (form_operands r.items) o x) (tokens_print os (form_operands r.items) o x (agreement os o r h).operands t)

@@ -91,7 +91,7 @@ mark_printed m.R0 = lit< tt
 mark_printed m.One = lit< tt
 mark_printed mark = tt
 
--- Operands that fit and are in their ranges can be printed.
+-- and so can operands that fit and are in their ranges
 operand_printed : (kind : Kind) (x : Token) → prints kind x ≡ true → IsTokenInRange x → IsPrinted x
 operand_printed k.Gr (t.Gr n) h r = r
 operand_printed k.Pr (t.Pr n) h r = r

@@ -26,7 +26,7 @@ line_back i bundle stop listed low =
       listed = still_listed i listed;
     }
 
--- The canonical line of a listed instruction is short.
+-- and it is short
 pub line_short : (i : Insn) (bundle : ℕ) (stop : Bool) → IsListed i → bundle < 2 ^ 32 → length (slot_text i bundle stop) ≤ SLOT_LINE_LIMIT
 line_short i bundle stop listed low =
     let ranges = ranges_of_listed i listed in

@@ -37,7 +37,7 @@ stem_begins f = left _ _ (of_row (λ r. begins_name r.stem && list_all is_name_b
 lexeme_bytes : (f : Form) → list_all is_name_byte (row_of f).stem ≡ true
 lexeme_bytes f = right (begins_name (row_of f).stem) _ (of_row (λ r. begins_name r.stem && list_all is_name_byte r.stem) f stems_plain)
 
--- The bytes of each completer are those of a name.
+-- and so are those of each completer
 completer_bytes : (suffix : Suffix) → list_all is_name_byte (suffix_text suffix) ≡ true
 completer_bytes s.Absent = refl
 completer_bytes suffix = refl
@@ -66,6 +66,6 @@ pub name_cut : (n cs : List ℕ) → begins_name n ≡ true → list_all is_name
 name_cut [] cs b h e = cc
 name_cut (c ∷ n) cs b h e = name_lexed c n cs (left _ _ b) (not-true _ (right (is_name_byte c) _ b)) (right (is_name_byte c) _ h) e
 
--- A mnemonic before an end is one word.
+-- and so is a mnemonic
 pub mnemonic_lexed : (f : Form) (completers : List Completer) (cs : List ℕ) → is_end cs ≡ true → lexed 0 (mnemonic_text f completers ++ cs) ≡ (kind.Name, mnemonic_text f completers) ∷ lexed 0 cs
 mnemonic_lexed f completers cs e = name_cut (mnemonic_text f completers) cs (mnemonic_begins f completers) (mnemonic_bytes f completers) e

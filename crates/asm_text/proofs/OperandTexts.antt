@@ -127,7 +127,7 @@ one_lexed target hex t.OpenBracket cs l p e = refl
 one_lexed target hex t.CloseBracket cs l p e = refl
 one_lexed target hex x cs l p e = absurd p
 
--- The word of an operand's text may be read as the operand.
+-- and that word may be read as the operand
 one_reads : (target : ℕ) (hex : Bool) (x : Token) → target < 2 ^ 34 → IsPrinted x → token_of (lexeme_kind_of x) (token_text target hex x) ≡ x
 one_reads target hex (t.Gr n) l p = gr_reads n p
 one_reads target hex (t.Pr n) l p = pr_reads n p
@@ -150,7 +150,7 @@ one_reads target hex t.OpenBracket l p = refl
 one_reads target hex t.CloseBracket l p = refl
 one_reads target hex x l p = absurd p
 
--- The bytes of an operand's text are plain.
+-- its bytes are plain
 one_plain : (target : ℕ) (hex : Bool) (x : Token) → target < 2 ^ 34 → IsPrinted x → has_only_plain (token_text target hex x) ≡ true
 one_plain target hex (t.Gr n) l p = decimal_is_plain n (omega arith)
 one_plain target hex (t.Pr n) l p = decimal_is_plain n (omega arith)

@@ -56,7 +56,7 @@ pub record IsBack (kind : Kind) (token : Token) (value : Value) : Type 0 where
   pub printed : prints kind token ≡ true
   pub read : operand_value kind token ≡ resting value
 
--- The coding, with this many bits, has numbers of the field.
+-- the coding, with so many bits, has numbers of the field
 abbrev pub is_field : NumberField → Coding → ℕ → Bool
 is_field f.Imm8 c.Signed width = width == 8
 is_field f.Imm9 c.Short width = width == 9
@@ -130,7 +130,7 @@ number_back f.Mask c.PredicateMask width (v.Mask n) h is t =
     let e = eqb-true width 16 h in let s : n < 131072 = rw e at t.0 in record { printed = le-leb n 131071 (omega (arith, s)); read = ap v.Mask (mask_back n s t.1) }
 number_back field coding width value h is t = cc
 
--- The coding, with this many bits, has operands of the kind.
+-- the coding, with so many bits, has operands of the kind
 abbrev pub is_kind : Kind → Coding → ℕ → Bool
 is_kind k.Gr c.Gr width = true
 is_kind k.Gr c.LowGr width = true

@@ -44,7 +44,7 @@ token_room t.Name = 12
 token_room (t.Number negative m) = 21
 token_room _ = 1
 
--- The most bytes of the text of an operand of a kind.
+-- and of an operand of a kind
 abbrev kind_room : Kind → ℕ
 kind_room k.Gr = 4
 kind_room k.Pr = 3

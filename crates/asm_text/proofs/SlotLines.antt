@@ -162,7 +162,7 @@ slot_reads x before after qp name stop back printed p seen n =
     (same_draft qp (untargeted x) (label_name (items_of x) after) name (is_bare (completers_or_none f (name_of_op x))) n bare)
     (ap ends_in_stop seen ∙ ends_with (tokens_of x) stop printed)
 
--- The words of a line with the mnemonic before them are read as the instruction that was printed.
+-- and so with the mnemonic before them
 worded_reads : (x : Op) (before after : List KindAndText) (qp : ℕ) (name : Option (List ℕ)) (stop : Bool) → ReadsBack x → AllByRecursion IsPrinted (tokens_of x) → predicate_of (tokens before) ≡ Ok qp
     → tokens after ≡ tokens_of x ++ stops stop → label_name (items_of x) after ≡ name
     → worded (name_of_op x) before after ≡ Ok (line.Slot (draft qp (untargeted x) name false) stop)

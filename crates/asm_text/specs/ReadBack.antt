@@ -8,7 +8,7 @@ use Rattle.asm_reading.specs.declared.line.Line.{Line}
 use Rattle.asm_reading.specs.declared.line.Line.TheVariants as line
 use Rattle.asm_printing.specs.SlotTexts.{label_text, target_of}
 
--- The operation without its target, as it is until the name of the target is put in.
+-- the instruction as it is until the name of its target is put in
 abbrev pub untargeted : Op → Op
 untargeted (op.ChkS unit r2 disp) = op.ChkS unit r2 (pos 0)
 untargeted (op.ChkA clear r1 disp) = op.ChkA clear r1 (pos 0)

@@ -162,7 +162,7 @@ entry_from laws s cs loose are bundle entry =
             let last : held cs (suc k) - 1 ≡ ends.last = omega arith in
             (omega arith, subst (λ m. IsSomeAnd (slice_get (targeted itself s) m) (λ i. IsCall i.op)) (sym last) ends.call)
 
--- The instruction behind a call of the sequence stands in a bundle behind one with a call.
+-- and the other way round
 behind_call : AreLayouts → (s : Loose) (cs : List Chunk) → IsLoose s → AreChunks cs s.items → (m : ℕ) → suc m < length s.items
     → IsSomeAnd (slice_get (targeted itself s) m) (λ i. IsCall i.op) → IsAfterCall (bundles_of s cs) (bundle_of cs (suc m))
 behind_call laws s cs loose are m more call =

@@ -28,7 +28,7 @@ begins_head laws s cs are m begins =
     let first = begins_first cs s.items m one.bundle one.offset one.chunk laws are one.at begins in
     first_is_head cs s.items m one.bundle one.chunk laws are (subst (λ j. IsAt cs m one.bundle j one.chunk) first one.at)
 
--- Where the taken edge of an instruction of the sequence leads.
+-- an instruction of the sequence, and where its taken edge leads
 sequence_there : (s : Loose) (n : ℕ) → IsLoose s → n < length s.items → IsSome (sequence_insn (targeted itself s) (first_of n))
 unfolding sequence_insn
 sequence_there s n loose less = subst IsSome (sym ((item_at s n loose less).put_in itself)) refl
@@ -45,7 +45,7 @@ sequence_within s n loose some = of (slice_get (targeted itself s) n) refl some
     of None is h = absurd (cc)
     of (Some i) is h = within_items s itself n i loose is
 
--- Where the taken edge of an instruction of the program leads.
+-- and of the program
 program_there : AreLayouts → (s : Loose) (cs : List Chunk) → IsLoose s → AreChunks cs s.items → (n : ℕ) (it : IsItemAt s n) → n < length s.items
     → insn_at (bundles_of s cs) (place_of cs n) ≡ Some (put (bundle_of cs) n it.item it.target)
 program_there laws s cs loose are n it less = has_instructions laws s cs (bundle_of cs) n loose are less ∙ it.put_in (bundle_of cs)

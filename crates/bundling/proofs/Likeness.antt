@@ -79,12 +79,12 @@ like_put : (f : ℕ → ℕ) (own : ℕ) (i : Insn) (target : Option Address) �
 like_put f own i None = like_itself i
 like_put f own i (Some a) = like_addressed i.qp i.op (relocated f a) own
 
--- An instruction does the same with its target put in by one counting and by another.
+-- So it does with its target put in by one counting and by another.
 pub like_puts : (f g : ℕ → ℕ) (own other : ℕ) (i : Insn) (target : Option Address)
     → DoesLike (record { qp = i.qp; op = put_in f own i.op target }) (record { qp = i.qp; op = put_in g other i.op target })
 like_puts f g own other i target = like_both i _ _ (like_put f own i target) (like_put g other i target)
 
--- An instruction with its target put in allocates or clears exactly where its item does.
+-- and so it allocates or clears exactly where its item does
 pub allocates_put : (f : ℕ → ℕ) (own : ℕ) (i : Insn) (target : Option Address) → is_alloc (action_of (put_in f own i.op target)) ≡ is_alloc (action_of i.op)
 allocates_put f own i target = sym (like_put f own i target).allocates
 

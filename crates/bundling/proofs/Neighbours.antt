@@ -122,7 +122,7 @@ pub record IsBetweenSlots (k slot upto : ℕ) (x : Place) : Type 0 where
   pub above : slot ≤ x.slot
   pub below : x.slot < upto
 
--- The places of a bundle from one slot on and before another one.
+-- those from the one on and before the other
 pub within_one : (k slot other : ℕ) (x : Place) → ¬ IsBefore x (in_bundle k slot) → IsBefore x (in_bundle k other) → IsBetweenSlots k slot other x
 within_one k slot other x from below =
     let bundle : x.bundle ≡ k = grind arith in
@@ -130,8 +130,7 @@ within_one k slot other x from below =
     let less : x.slot < other = grind arith in
     record { bundle = bundle; above = above; below = less }
 
--- The places from a slot on and before a slot of the next bundle: behind the first in its bundle, or in the next one before the
--- second.
+-- or in the next bundle before the first
 within_two : (k slot other : ℕ) (x : Place) → ¬ IsBefore x (in_bundle k slot) → IsBefore x (in_bundle (suc k) other)
     → ((x.bundle ≡ k) × (slot ≤ x.slot)) ⊎ ((x.bundle ≡ suc k) × (x.slot < other))
 within_two k slot other x from (inl less) =

@@ -115,7 +115,7 @@ wanted_there : (gap : Bool) (b : Bundle) (from before slot : ℕ) → HasStopWhe
 wanted_there true b from before slot h above less stop = refl
 wanted_there false b from before slot h above less stop = let none = h slot above less in absurd (cc)
 
--- A stop in a part of a bundle where one is wanted is the one that is known.
+-- and it is the one that is known
 same_stop : (gap : Bool) (b : Bundle) (from before slot other : ℕ) → HasStopWhere gap b from before → from ≤ slot → slot < before → has_stop b slot ≡ true
     → from ≤ other → other < before → has_stop b other ≡ true → slot ≡ other
 same_stop true b from before slot other h above less stop above_too less_too stop_too = h.only slot above less stop ∙ sym (h.only other above_too less_too stop_too)
@@ -259,7 +259,7 @@ clear_stop laws s cs are n more of x between stopped = elim (neighbours laws.sto
         let slot : x.slot ≡ two.first.slot = there.last ∙ sym (b_last laws s cs are n of two.first) in
         ap (λ k. in_bundle k x.slot) there.bundle ∙ ap (in_bundle two.first.bundle) slot ∙ sym two.first.place
 
--- After the last instruction of the sequence, a branch has no place behind it.
+-- and after the last instruction it has no place behind it
 clear_last : ArePlaceLaws → (s : Loose) (cs : List Chunk) → AreChunks cs s.items → (n : ℕ) → suc n ≡ length s.items → IsOfClass s n B → next_of (bundles_of s cs) (place_of cs n) ≡ None
 clear_last laws s cs are n end of =
     let one = spot cs s.items n are of.inside in

@@ -32,7 +32,7 @@ StopsAre true bundles In =
     (place : Place) × In place × (is_stopped bundles place ≡ true) × ((other : Place) → In other → is_stopped bundles other ≡ true → other ≡ place)
 StopsAre false bundles In = (other : Place) → In other → is_stopped bundles other ≡ false
 
--- Stops are as wanted where the places with stops are within a part of a bundle.
+-- so it is where those with stops are within a part of a bundle
 stops_are : (cs : List Chunk) (insns : List Insn) (k slot upto : ℕ) (c : Chunk) (gap : Bool) (In : Place → Type 0) → slice_get cs k ≡ Some c
     → HasStopWhere gap (filled_at cs insns k c) slot upto → ((x : ℕ) → slot ≤ x → x < upto → In (in_bundle k x))
     → ((x : Place) → In x → is_stopped (bundles_from cs insns) x ≡ true → IsBetweenSlots k slot upto x) → StopsAre gap (bundles_from cs insns) In
@@ -137,7 +137,7 @@ pub record IsFrom (bundles : List Bundle) (from : Place) (x : Place) : Type 0 wh
   pub is : IsPlaceOf bundles x
   pub from_there : ¬ IsBefore x from
 
--- From the last instruction on a stop follows exactly where one is wanted.
+-- So it is from the last instruction on.
 pub stops_behind : AreStopLaws → (s : Loose) (cs : List Chunk) → AreChunks cs s.items → (n : ℕ) → suc n ≡ length s.items
     → StopsAre (slice_index_or (gaps_of cs) n false) (bundles_of s cs) (IsFrom (bundles_of s cs) (place_of cs n))
 stops_behind laws s cs are n end =

@@ -22,12 +22,12 @@ abbrev pub relocated : (ℕ → ℕ) → Address → Address
 relocated f (address.Bundle n) = address.Bundle (f n)
 relocated f (address.Byte at) = address.Byte at
 
--- The operation of an instruction that counts as `own`, with the address of its target put in.
+-- the operation of an instruction that counts as `own`, with what its target names put in
 abbrev pub put_in : (ℕ → ℕ) → ℕ → Op → Option Address → Op
 put_in f own op None = op
 put_in f own op (Some a) = unwrap_or (addressed op (relocated f a) own) op
 
--- The instructions from the n-th on with their targets put in, where the n-th counts as f n.
+-- instructions with their targets put in, where the n-th counts as f n; the first of these is the n-th
 abbrev pub targeted_from : (ℕ → ℕ) → ℕ → List Item → List (Option Address) → List Insn
 targeted_from f n [] targets = []
 targeted_from f n (item ∷ items) [] = []
@@ -57,7 +57,7 @@ places_of cs = places_from 0 cs
 unfoldable pub place_of : List Chunk → ℕ → Place
 place_of cs n = slice_index_or (places_of cs) n (first_of 0)
 
--- The bundle in which the n-th instruction stands.
+-- and its bundle
 abbrev pub bundle_of : List Chunk → ℕ → ℕ
 bundle_of cs n = (place_of cs n).bundle
 

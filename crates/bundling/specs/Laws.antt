@@ -27,7 +27,7 @@ QuietIsShort =
 abbrev pub BundledIsSpread : Type 0
 BundledIsSpread = (s : Loose) (cs : List Chunk) → IsLoose s → AreChunksOf s cs → IsSpread (sequence_of s) (program_of s cs) (place_of cs)
 
--- The program has each instruction of the loose text at its place, with its target put in.
+-- each is there with its target put in
 abbrev pub BundledHasInstructions : Type 0
 BundledHasInstructions =
     (s : Loose) (cs : List Chunk) (n : ℕ) → IsLoose s → AreChunksOf s cs → n < length s.items

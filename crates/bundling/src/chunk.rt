@@ -8,8 +8,8 @@ use ia_program::limits::RUN_LIMIT;
 use slot_layouts::Wanted;
 use std::marker::Model;
 
-/// As many bundles as this that follow one another, with one more behind them, never all go without a stop: with the slots on
-/// both sides a run of slots could be longer than its limit.
+/// As many bundles as this that follow one another, with one more behind them, never all go without a stop: with the slots on both
+/// sides a run of slots could be longer than its limit.
 pub const QUIET_LIMIT: usize = RUN_LIMIT as usize / 3 - 1;
 
 /// What a bundle is to hold, and whether a stop is wanted after it.

@@ -35,7 +35,7 @@ pub fn bundled_is_spread()
     laid_out_bundles();
 }
 
-/// The program has the stops that are wanted and no other.
+/// It has the stops that are wanted and no other.
 pub fn bundled_has_stops()
     ensures stops { BundledHasStops }
     ensures one { BundledHasOneStop }

@@ -25,7 +25,7 @@ number_small p n program is = let small = bundle_small p.bundles (place_at n) is
 pub number_below : (p : Program) (n : ℕ) → IsProgram p → IsPlaceOf p.bundles (place_at n) → n < 2 ^ 32
 number_below p n program is = let small = number_small p n program is in omega (arith, program.counts.bundles)
 
--- The place, where there is one, is of a slot of a bundle, and its number isn't the one that stands for no place.
+-- A place, where there is one, has such a number.
 abbrev pub IsNumbered : Option Place → Type 0
 IsNumbered o = IfSome o (λ place. (place.slot < 3) × (place_number place < NO_PLACE))
 
@@ -37,7 +37,7 @@ next_numbered p place (Some next) program e =
     let slot = slot_small p.bundles next is in
     (slot, omega (arith, program.counts.bundles))
 
--- The next place of a slot is of a slot of a bundle, and its number isn't the one that stands for no place.
+-- so has the next place of a slot
 pub slot_next : (p : Program) (n : ℕ) (slot : Slot) → IsProgram p → slot_at p.bundles (place_at n) ≡ Some slot → IsNumbered slot.next
 slot_next p n slot program at =
     let s = slot_is p.bundles (place_at n) slot at in

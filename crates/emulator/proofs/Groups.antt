@@ -23,7 +23,7 @@ slots_are p m running = ap (λ n. n.slots) (advanced_is p m running) ∙ ap (λ 
 counted : (p : Program) (m next : Progress) → m.end ≡ None → next ≡ advanced p m → next.groups ≡ (opened m).groups
 counted p m next running is = ap (λ n. n.groups) (is ∙ advanced_is p m running)
 
--- The counter has room for this many groups more, the first of which is the one under way or the next one.
+-- So many groups can be counted, with the one under way or the next one as the first.
 abbrev pub CanCount : Progress → ℕ → Type 0
 CanCount m left = (opened m).groups + left ≤ 2 ^ 64
 
@@ -64,7 +64,7 @@ is_over p m next how running is e =
       event = told (RUN_LIMIT - 1) p m next how running is e;
     }
 
--- Where a step doesn't end its group, the rest of the group comes to the same from there.
+-- And else its rest comes to the same.
 pub record HasSameRest (p : Program) (m next : Progress) : Type 0 where
   pub few : m.slots < RUN_LIMIT
   pub group : group_further p next ≡ group_further p m
@@ -87,7 +87,7 @@ is_within p m next program u running is e =
       room = λ left room. omega (arith, room, opens, counted p m (advanced p m) running refl);
     })
 
--- The groups that are left come to the same from the end of one group on.
+-- So many groups come to the same from there.
 pub over_groups : (p : Program) (m next : Progress) (left : ℕ) → 0 < left → next ≡ group_further p m → groups_further (left - 1) p next ≡ groups_further left p m
 over_groups p m next zero some e = absurd (omega (arith, some))
 over_groups p m next (suc n) some e = let less : suc n - 1 ≡ n = omega arith in rw less (ap (groups_further n p) e)

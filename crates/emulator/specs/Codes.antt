@@ -14,20 +14,20 @@ use Rattle.emulator.specs.declared.code.Code.TheInside.{Inside}
 use Rattle.emulator.specs.declared.work.Work.TheVariants.{Act}
 use Rattle.emulator.specs.Works.{action_of, HasTarget}
 
--- The number of a place, where there is one.
+-- the number of a place, where there is one
 abbrev pub number_of : Option Place → ℕ
 number_of None = NO_PLACE
 number_of (Some place) = place_number place
 
--- The place with a number, where it is one.
+-- the place with a number, where it is one
 abbrev pub numbered : ℕ → Option Place
 numbered number = if number == NO_PLACE then None else Some (place_at number)
 
--- What stands for a place that there isn't.
+-- what stands for a place that there isn't
 abbrev pub no_slot : CodeSlot
 no_slot = record { work = Act (Idle unit.M); next = NO_PLACE; qp = 0; stop = false }
 
--- The code of a slot says what the slot of a place in a bundle says.
+-- It says what the slot of a place in a bundle says.
 pub record IsCodeSlotOf (bundle : ℕ) (slot : Slot) (d : CodeSlot) : Type 0 where
   pub action : action_of d.work ≡ slot.action
   pub target : HasTarget bundle d.work
@@ -35,7 +35,7 @@ pub record IsCodeSlotOf (bundle : ℕ) (slot : Slot) (d : CodeSlot) : Type 0 whe
   pub qp : d.qp ≡ slot.qp
   pub stop : d.stop ≡ slot.stop
 
--- The code of a slot says what the slot at the place with this number says, where there is one.
+-- It says what the slot at the place with this number says, where there is one.
 abbrev pub IsCodeSlot : List Bundle → ℕ → CodeSlot → Type 0
 IsCodeSlot bundles number d = (slot : Slot) → slot_at bundles (place_at number) ≡ Some slot → IsCodeSlotOf (place_at number).bundle slot d
 

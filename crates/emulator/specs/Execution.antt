@@ -8,6 +8,6 @@ pub record Execution : Type 0 where
   pub program : Program
   pub progress : Progress
 
--- What the machine holds.
+-- what the machine holds
 abbrev pub contents : Progress → Contents
 contents m = record { registers = m.state.registers; memory = m.state.memory; range = m.range }

@@ -18,7 +18,7 @@ use Rattle.emulator.specs.declared.run.Run.{Run}
 use Rattle.emulator.specs.Works.{action_of, HasTarget}
 use Rattle.emulator.specs.Codes.{numbered}
 
--- The state of a machine that stands at a place.
+-- the state of a machine that stands at a place
 abbrev pub state_at : Contents → Place → State
 state_at c place = record { registers = c.registers; memory = c.memory; place = place }
 
@@ -28,11 +28,11 @@ state_of r = state_at r.state (place_at r.number)
 abbrev pub progress_of : Run → Progress
 progress_of r = record { state = state_of r; end = r.end; groups = r.groups; first = place_at r.first; slots = r.slots; range = r.state.range }
 
--- The step of an outcome with this next place.
+-- the step of an outcome with this next place
 abbrev pub settled_step : Program → State → Option Place → Outcome → Step
 settled_step p s next o = let settled = settled next s.memory o.next o in step_by p s settled settled.next
 
--- A run that has come to a place by an outcome, with `slots` slots of the group before it.
+-- a run that has come to a place by an outcome, with so many slots of the group before it
 abbrev pub arrived : Progress → Outcome → Place → ℕ → Progress
 arrived m o place slots = record m {
   state = record { registers = registers_after o m.state.registers; memory = o.memory; place = place };

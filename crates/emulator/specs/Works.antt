@@ -10,7 +10,7 @@ use Rattle.ia_meaning.specs.Landings.{target_of}
 use Rattle.emulator.specs.declared.work.Work.{Work}
 use Rattle.emulator.specs.declared.work.Work.TheVariants.{Sum, SumImmediate, Load, Store, Loop, Jump, Act}
 
--- The action of the instruction.
+-- the action of the instruction
 abbrev pub action_of : Work → Action
 action_of (Sum r1 r2 r3) = action.Compute r1 r2 r3 (Alu Add)
 action_of (SumImmediate r1 r3 imm) = action.Compute r1 0 r3 (AluImmediate Add imm)
@@ -20,7 +20,7 @@ action_of (Loop kind disp bundle) = action.Loop kind disp
 action_of (Jump disp bundle) = action.Jump disp
 action_of (Act a) = a
 
--- A branch in a bundle leads to its target.
+-- a branch in a bundle leads to its target
 abbrev pub HasTarget : ℕ → Work → Type 0
 HasTarget bundle (Loop kind disp goal) = goal ≡ target_of bundle disp
 HasTarget bundle (Jump disp goal) = goal ≡ target_of bundle disp

@@ -139,8 +139,8 @@ impl<'a> Machine<'a> {
         self.run.state.alat()
     }
 
-    /// Runs one slot. It returns None exactly where the run goes on. After an end nothing changes any more, and the same end is
-    /// returned again.
+    /// Runs one slot. None exactly where the run goes on; after an end nothing changes any more, and it
+    /// is answered again.
     pub fn step(&mut self) -> Option<End>
         requires room { self.old.progress.groups + 1 < 2 ^ 64 }
         ensures state { self.new ≡ record self.old { progress = advanced self.old.program self.old.progress } }
@@ -169,7 +169,7 @@ impl<'a> Machine<'a> {
 
     /// Runs at most this number of groups more, at least one. A group that is under way is the first
     /// of them. The end is `Limit` exactly where all ran without one; a later call goes on there. After
-    /// another end nothing changes any more, and it is returned again.
+    /// another end nothing changes any more, and it is answered again.
     ///
     /// After [`open`](Machine::open) this is the sequential run: `ia_meaning::progress_is_run` is the law.
     #[tactic(auto, using(ia_meaning::proofs::GroupEnds::groups_ended))]

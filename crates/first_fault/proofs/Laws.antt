@@ -49,7 +49,7 @@ some_fault (s ∷ later) (inr passed, others) = elim (some_fault later others) [
 abbrev pub IsNotOpen : {Fault : Type 0} → Stage Fault → Type 0
 IsNotOpen s = ((key : s.Key) → s.Finds key → ⊥) → (s.IsPassed → ⊥) → ⊥
 
--- What is known of stages that aren't without a fault, each where those before it are passed.
+-- the same of stages of which it is known where those before are passed
 abbrev pub AreNotOpen : {Fault : Type 0} → List (Stage Fault) → Type 0
 AreNotOpen [] = Unit {0}
 AreNotOpen (s ∷ later) = IsNotOpen s × (s.IsPassed → AreNotOpen later)
@@ -57,7 +57,7 @@ AreNotOpen (s ∷ later) = IsNotOpen s × (s.IsPassed → AreNotOpen later)
 pub unless_not_open : {Fault : Type 0} (Holds : Type 0) (f : Fault) → IsNotOpen (unless Holds f)
 unless_not_open Holds f = λ none go. none tt go
 
--- Such stages aren't without a first fault unless every one is passed.
+-- they aren't without a first fault unless every one is passed
 pub not_without : {Fault : Type 0} (stages : List (Stage Fault)) → AreNotOpen stages → ((f : Fault) → IsFirstFault stages f → ⊥) → (ArePassed stages → ⊥) → ⊥
 not_without [] closed none go = go tt
 not_without (s ∷ later) closed none go =

@@ -9,11 +9,11 @@ pub record Stage (Fault : Type 0) : Type 1 where
   pub Finds : Key → Type 0
   pub IsPassed : Type 0
 
--- The stage whose one fault comes where something doesn't hold.
+-- the stage whose one fault comes where something doesn't hold
 abbrev pub unless : {Fault : Type 0} → Type 0 → Fault → Stage Fault
 unless Holds f = record { Key = Unit {0}; fault = λ key. f; Finds = λ key. ¬ Holds; IsPassed = Holds }
 
--- The stage whose faults are those of the keys that are the first bad ones.
+-- the stage whose faults are those of the keys that are the first bad ones
 abbrev pub first : {Fault : Type 0} (Key : Type 0) → (Key → Fault) → (Key → Type 0) → Type 0 → Stage Fault
 first Key fault IsFirst AreGood = record { Key = Key; fault = fault; Finds = IsFirst; IsPassed = AreGood }
 

@@ -36,7 +36,7 @@ same_trans v w (Some a) None c within f g = absurd f
 same_trans v w (Some a) (Some b) None within f g = absurd g
 same_trans v w (Some a) (Some b) (Some c) within f g = record { same = λ x y n. f.same x y (within x n) ∙ g.same x y n }
 
--- A change of some rows is a change of more rows.
+-- and a change of some rows is one of more rows
 pub same_within : (v w : ℕ) (a b : Known) → ((x : ℕ) → has_bit w x ≡ false → has_bit v x ≡ false) → IsSameBut v a b → IsSameBut w a b
 same_within v w a b within f = same_trans v w a b b within f (same_refl w b)
 
@@ -116,6 +116,6 @@ progress_twice a b c d e f g h = record {
 pub dirty_count-set : (d : List ℕ) (n rows : ℕ) → n < length d → dirty_count (set d n rows) ≤ dirty_count d + 1
 dirty_count-set d n rows l = omega (arith, sum_by-set (λ (w : ℕ). cond (eqb w 0) 0 1) d n rows 0 l, at_most_one (eqb rows 0))
 
--- With one place that is dirty cleared, one fewer is dirty.
+-- and with one that is dirty cleared, one is fewer
 pub dirty_count-less : (d : List ℕ) (n : ℕ) → n < length d → get_or d n 0 ≢ 0 → dirty_count (set d n 0) < dirty_count d
 dirty_count-less d n l some = omega (arith, sum_by-set (λ (w : ℕ). cond (eqb w 0) 0 1) d n 0 0 l, ap {B = ℕ} (λ (b : Bool). cond b 0 1) (ne_eqb (get_or d n 0) 0 some))

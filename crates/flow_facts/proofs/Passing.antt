@@ -60,7 +60,7 @@ leads_to_one p from e a b f g = same_Some _ _ (sym f.leads ∙ g.leads)
 pub longer : (p : Program) (from to : Place) (e : Edge) (w : Walk) → EndsAt p from w → HasEdge p from e to → EndsAt p to (goes_on w e to)
 longer p from to e w is edge = record { walks = (is.walks, (let P : Place → Type 0 = λ k. HasEdge p k e to in subst P (sym is.ends) edge)); ends = refl }
 
--- What is known on a walk that goes on is what is known past its place.
+-- and what is known on it is what is known past that place
 pub facts_longer : (p : Program) (from to : Place) (e : Edge) (w : Walk) → EndsAt p from w → facts_on p (goes_on w e to) ≡ pairs_past p from e (facts_on p w)
 facts_longer p from to e w is = ap (λ (k : Place). pairs_past p k e (facts_on p w)) is.ends
 
@@ -80,7 +80,7 @@ witnessed_along p from e to f wit edge = record {
   lacking = λ x y n. lacking_along p from e to f wit edge x y (why_missing_past p from e f x y n);
 }
 
--- What an entry declares is witnessed at it.
+-- and so is at an entry what it declares
 pub witnessed_entry : (p : Program) (bundle : ℕ) → IsEntry p bundle → IsWitnessedAt p (first_of bundle) (known_first p bundle)
 witnessed_entry p bundle entry = record {
   reached = (begins bundle, record { walks = entry; ends = refl });
@@ -121,7 +121,7 @@ comes_along p from e to n slot t t' before here edge number joined =
       joined = subst (Joined t t' (place_at n)) (pairs_by-slot p from slot e before here) joined;
     }
 
--- What has come along an edge earlier has come past the slot.
+-- and what has come earlier has come past the slot
 pub come_by_slot : (p : Program) (from : Place) (e : Edge) (to : Place) (n : ℕ) (slot : Slot) (t : List Known) (w : ℕ) (now : Known) → slot_at p.bundles from ≡ Some slot → place_at n ≡ to → HasCome t to (pairs_past p from e) w now → HasCome t (place_at n) (λ f. pairs_by f (action_rule slot.action e slot.qp)) w now
 come_by_slot p from e to n slot t w now here there come =
     let same : pairs_past p from e ≡ (λ f. pairs_by f (action_rule slot.action e slot.qp)) = fun_ext (λ f. sym (pairs_by-slot p from slot e f here)) in
@@ -147,7 +147,7 @@ passed_changed p from e to rows before t t' d sized wit here came same less =
     let short : to < length d = omega (arith, came.below, sized) in
     passed_by p from e to before t t' d _ wit here came (progress_marked t t' d to rows _ short came.joined same) (omega (arith, dirty_count-set d to (bit_or (get_or d to 0) rows) short, less))
 
--- Where no row of the edge's end changed, nothing is marked.
+-- and where none did, nothing is
 pub passed_same : (p : Program) (from : Place) (e : Edge) (to : ℕ) (before : Pairs) (t t' : List Known) (d : List ℕ) → IsWitnessed p t → IsWitnessedAt p from before → ComesAlong p from e to t t' before → IsSameBut 0 (known_at t (place_at to)) (known_at t' (place_at to)) → weight t' ≤ weight t → Passed p from e before t d t' d
 passed_same p from e to before t t' d wit here came same less = passed_by p from e to before t t' d d wit here came (progress_same t t' d to _ came.joined same) (omega (arith, less))
 
@@ -163,7 +163,7 @@ not_before_itself : (a : Place) → IsBefore a a → ⊥
 not_before_itself a (inl h) = omega arith
 not_before_itself a (inr h) = omega (arith, h.1)
 
--- What may pass along an edge may still do so after it has passed along a fall.
+-- and does so after it has passed along a fall, which leads to another place
 pub may_pass_on : (p : Program) (from : Place) (e : Edge) (rows : ℕ) (t t' : List Known) (d d' : List ℕ) (before : Table) → MayPass p from e rows t before → Passed p from Falls (pairs_of before) t d t' d' → MayPass p from e rows t' before
 may_pass_on p from e rows t t' d d' before may passed = record {
   witnessed = passed.witnessed;
@@ -224,7 +224,7 @@ two_passes p t t1 t2 d d1 d2 n before u is f g = record {
           came = λ rows q. all.shrinks.keeps to _ (was.came rows q);
         }
 
--- After both passes less is left to lose, or fewer places are to be gone on from.
+-- and then less is left to lose, or fewer places are to be gone on from
 pub spread_on : (p : Program) (t t1 t2 : List Known) (d d1 d2 : List ℕ) (n rows : ℕ) → IsBetweenSteps p t d → n < place_count p → get_or d n 0 ≢ 0 → (known_at t (place_at n) ≡ None → ⊥) → rows ≡ get_or d n 0
     → ((before : Table) → MayPass p (place_at n) Falls rows t before → Passed p (place_at n) Falls (pairs_of before) t (set d n 0) t1 d1)
     → ((before : Table) → MayPass p (place_at n) Taken rows t1 before → Passed p (place_at n) Taken (pairs_of before) t1 d1 t2 d2)

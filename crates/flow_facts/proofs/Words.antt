@@ -42,7 +42,7 @@ covers_marked words words' numbers numbers' n len len' marks others h = record {
     of m none (inl e) = absurd (true≢false (rw (eq-eqb m n e) at none))
     of m none (inr far) = others m far ∙ h.unmarked m (rw (ne_eqb m n far) at none)
 
--- What covers a list covers one that has the same numbers but for one that is 0.
+-- or for one that is 0
 pub covers_unmarked : (words words' numbers numbers' : List ℕ) (n : ℕ) → length words' ≡ length words → length numbers' ≡ length numbers → ((m : ℕ) → is_marked words' m ≡ cond (eqb m n) false (is_marked words m)) → ((k : ℕ) → k ≢ n → get_or numbers' k 0 ≡ get_or numbers k 0) → get_or numbers' n 0 ≡ 0 → Covers words numbers → Covers words' numbers'
 covers_unmarked words words' numbers numbers' n len len' marks others zero h = record {
   long = omega (arith, h.long);
@@ -53,7 +53,7 @@ covers_unmarked words words' numbers numbers' n len len' marks others zero h = r
     of m none (inl e) = ap (λ (k : ℕ). get_or numbers' k 0) e ∙ zero
     of m none (inr far) = others m far ∙ h.unmarked m (rw (ne_eqb m n far) at none)
 
--- What covers a list covers one whose numbers are no larger.
+-- or for smaller ones
 pub covers_less : (words numbers numbers' : List ℕ) → length numbers' ≡ length numbers → ((k : ℕ) → get_or numbers' k 0 ≤ get_or numbers k 0) → Covers words numbers → Covers words numbers'
 covers_less words numbers numbers' len less h = record { long = omega (arith, h.long); unmarked = λ m none. omega (arith, less m, h.unmarked m none) }
 

@@ -59,12 +59,12 @@ pub record Joined (old new : List Known) (to : Place) (out : Pairs) : Type 0 whe
   pub lacking : (rows : Table) → known_at new to ≡ Some rows → (x y : ℕ) → pairs_of rows x y ≡ false →
       (out x y ≡ false) ⊎ ((before : Table) × (known_at old to ≡ Some before) × (pairs_of before x y ≡ false))
 
--- A walk ends at the place, and each pair that isn't known there is unknown on some walk that ends there.
+-- A walk ends at the place, and each of the pairs that is missing is missing on a walk that ends there.
 pub record IsWitnessedAt (p : Program) (place : Place) (f : Pairs) : Type 0 where
   pub reached : (w : Walk) × EndsAt p place w
   pub lacking : (x y : ℕ) → f x y ≡ false → (w : Walk) × EndsAt p place w × (facts_on p w x y ≡ false)
 
--- Each place of which the table says something is witnessed by walks in this way.
+-- So it is of each place that the table says something of.
 pub record IsWitnessed (p : Program) (table : List Known) : Type 0 where
   pub at : (place : Place) (rows : Table) → known_at table place ≡ Some rows → IsWitnessedAt p place (pairs_of rows)
 
@@ -117,7 +117,7 @@ dirty_count dirty = sum_by (λ (rows : ℕ). if rows == 0 then 0 else 1) dirty
 abbrev pub is_marked : List ℕ → ℕ → Bool
 is_marked words n = has_bit (slice_index_or words (n / BLOCK) 0) (n % BLOCK)
 
--- The sum of all words, which is 0 exactly where no word has a mark.
+-- all words as one number
 abbrev pub sum_of : List ℕ → ℕ
 sum_of words = sum_by (λ (w : ℕ). w) words
 

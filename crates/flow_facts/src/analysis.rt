@@ -29,7 +29,7 @@ impl<'p> Model for Analysis<'p> {
 }
 
 impl<'p> Analysis<'p> {
-    /// The slots of a program, and what is known at each place.
+    /// That of a program.
     ///
     /// # Errors
     ///

@@ -7,8 +7,9 @@ use crate::bitmap::{BLOCK, first, mark, unmark};
 use std::alloc::{AllocError, Global};
 use std::marker::Model;
 
-/// The dirty places: those at which rows have changed since they were last gone on from. Of each place a word has these rows, bit
-/// x that of the pairs of the x-th predicate. Contracts see the list of these words; a place whose word is 0 isn't dirty.
+/// The dirty places, and of each the rows that have changed since it was last gone on from: bit x is that of the
+/// pairs of the x-th predicate. Contracts see a list that says of the place of each number which rows are
+/// marked. Where none is, the place isn't dirty.
 #[derive(Drop)]
 pub(crate) struct DirtyPlaces {
     rows: Vec<u64>,
@@ -29,7 +30,7 @@ impl Model for DirtyPlaces {
 }
 
 impl DirtyPlaces {
-    /// A list of `count` places none of which is dirty.
+    /// None of so many places.
     ///
     /// # Errors
     ///

@@ -8,10 +8,10 @@ use Rattle.formats_a.specs.declared.rows.TheConstants.{ROWS}
 unfoldable pub rows : List Row
 rows = ROWS
 
--- The word is that of an A instruction.
+-- The word is that of the instruction, an A instruction,
 abbrev pub CodeA : Insn → ℕ → Type 0
 CodeA = HasRow rows
 
--- The instruction is an A instruction: it has a word.
+-- and the instruction is an A instruction: it has a word.
 abbrev pub IsListedA : Insn → Type 0
 IsListedA = IsListedBy rows

@@ -29,10 +29,10 @@ pub use rows::ROWS;
 /// chapter 4, instruction formats, A1 to A9). Where in its bundle the word stands is not looked at.
 #[tactic(auto, using(crate::proofs::Words::below, crate::proofs::Words::high))]
 pub fn decode_a(word: u64) -> Option<Insn>
-    // What is returned has this word.
+    // What is answered has this word.
     ensures found { IfSome result (λ i. CodeA i word) }
 
-    // An instruction that has this word is returned, so None comes only where none has it.
+    // An instruction that has this word is answered, so None comes only where none has it.
     ensures only { (i : Insn) → CodeA i word → result ≡ Some i }
 
     // A slot has 41 bits, and no larger number is a word.
@@ -52,10 +52,10 @@ pub fn encode_a(insn: &Insn) -> Option<u64>
     // A word comes exactly where it is an A instruction in its ranges.
     ensures listed { IsSome result ↔ IsListedA insn.now }
 
-    // What is returned is its word.
+    // What is answered is its word.
     ensures found { IfSome result (λ w. CodeA insn.now w) }
 
-    // A word that it has is returned.
+    // A word that it has is answered.
     ensures only { (w : ℕ) → CodeA insn.now w → result ≡ Some w }
 
     // It has the 41 bits of a slot.

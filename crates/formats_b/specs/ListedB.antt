@@ -8,10 +8,10 @@ use Rattle.formats_b.specs.declared.family_b.rows.TheConstants.{ROWS}
 unfoldable pub rows : List Row
 rows = ROWS
 
--- The word is that of a B instruction.
+-- The word is that of the instruction, a B instruction,
 abbrev pub CodeB : Insn → ℕ → Type 0
 CodeB = HasRow rows
 
--- The instruction is a B instruction: it has a word.
+-- and the instruction is a B instruction: it has a word.
 abbrev pub IsListedB : Insn → Type 0
 IsListedB = IsListedBy rows

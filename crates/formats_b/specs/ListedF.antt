@@ -8,10 +8,10 @@ use Rattle.formats_b.specs.declared.family_f.rows.TheConstants.{ROWS}
 unfoldable pub rows : List Row
 rows = ROWS
 
--- The word is that of an F instruction.
+-- The word is that of the instruction, an F instruction,
 abbrev pub CodeF : Insn → ℕ → Type 0
 CodeF = HasRow rows
 
--- The instruction is an F instruction: it has a word.
+-- and the instruction is an F instruction: it has a word.
 abbrev pub IsListedF : Insn → Type 0
 IsListedF = IsListedBy rows

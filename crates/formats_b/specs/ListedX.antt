@@ -25,10 +25,10 @@ pub record CodeX (insn : Insn) (l word : ℕ) : Type 0 where
 abbrev pub IsListedX : Insn → Type 0
 IsListedX insn = (word : ℕ) × CodeX insn (low_of insn.op) word
 
--- The words of the L slot and the X slot are those of at most one long instruction.
+-- Two words are those of at most one long instruction,
 abbrev pub OneLongInstruction : Type 0
 OneLongInstruction = (l word : ℕ) (i j : Insn) → CodeX i l word → CodeX j l word → i ≡ j
 
--- A long instruction has at most one word in the L slot and one in the X slot.
+-- which has at most one word in the L slot and one in the X slot.
 abbrev pub OneLongWord : Type 0
 OneLongWord = (i : Insn) (l m v w : ℕ) → CodeX i l v → CodeX i m w → (l ≡ m) × (v ≡ w)

@@ -14,11 +14,11 @@ low_of (Break unit imm) = bits 20 41 imm
 low_of (Nop unit imm) = bits 20 41 imm
 low_of op = 0
 
--- What the X slot holds of the number of a break or nop: its top bit, and its 20 low bits.
+-- What the X slot holds of the number of a break or nop: its top bit, and its 20 low bits,
 abbrev pub number_part : ℕ → ℕ
 number_part n = bits 61 1 n * 2 ^ 20 + bits 0 20 n
 
--- What the X slot holds of the immediate of a move: i, imm9d, imm5c, ic and imm7b, in the order of the word.
+-- and of the immediate of a move: i, imm9d, imm5c, ic and imm7b, in the order of the word.
 abbrev pub move_part : ℕ → ℕ
 move_part n = bits 63 1 n * 2 ^ 22 + bits 7 9 n * 2 ^ 13 + bits 16 5 n * 2 ^ 8 + bits 21 1 n * 2 ^ 7 + bits 0 7 n
 

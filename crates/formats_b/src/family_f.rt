@@ -15,10 +15,10 @@ use insn_rows::{decode_with, encode_with, lists_with, opcode_of, word_with};
 /// chapter 4, instruction formats, F15 and F16). Where in its bundle the word stands is not looked at.
 #[tactic(auto, using(crate::proofs::WordsF::below))]
 pub fn decode_f(word: u64) -> Option<Insn>
-    // What is returned has this word.
+    // What is answered has this word.
     ensures found { IfSome result (λ i. CodeF i word) }
 
-    // An instruction that has this word is returned, so None comes only where none has it.
+    // An instruction that has this word is answered, so None comes only where none has it.
     ensures only { (i : Insn) → CodeF i word → result ≡ Some i }
 
     // A slot has 41 bits, and no larger number is a word.
@@ -34,10 +34,10 @@ pub fn encode_f(insn: &Insn) -> Option<u64>
     // A word comes exactly where it is an F instruction in its ranges.
     ensures listed { IsSome result ↔ IsListedF insn.now }
 
-    // What is returned is its word.
+    // What is answered is its word.
     ensures found { IfSome result (λ w. CodeF insn.now w) }
 
-    // A word that it has is returned.
+    // A word that it has is answered.
     ensures only { (w : ℕ) → CodeF insn.now w → result ≡ Some w }
 
     // It has the 41 bits of a slot.

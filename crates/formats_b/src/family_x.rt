@@ -16,9 +16,9 @@ use parts::{is_within, low_of, slot_part, whole};
 /// The words of a long instruction, 41 bits each (volume 1, chapter 3, instruction encoding).
 #[derive(Clone, Copy, Debug, PartialEq, Eq)]
 pub struct LongWord {
-    /// The word of the L slot, slot 1: bits of the immediate.
+    /// That of the L slot, slot 1: bits of the immediate.
     pub l: u64,
-    /// The word of the X slot, slot 2.
+    /// That of the X slot, slot 2.
     pub word: u64,
 }
 
@@ -28,10 +28,10 @@ pub struct LongWord {
 /// bits 25:6 of `word`.
 #[tactic(auto, using(crate::proofs::WordsX::l_below, crate::proofs::WordsX::word_below))]
 pub fn decode_x(l: u64, word: u64) -> Option<Insn>
-    // What is returned has these words.
+    // What is answered has these words.
     ensures found { IfSome result (λ i. CodeX i l word) }
 
-    // An instruction that has these words is returned, so None comes only where none has them.
+    // An instruction that has these words is answered, so None comes only where none has them.
     ensures only { (i : Insn) → CodeX i l word → result ≡ Some i }
 
     // A slot has 41 bits, and no larger number is a word.
@@ -54,7 +54,7 @@ pub fn encode_x(insn: &Insn) -> Option<LongWord>
     // Words come exactly where it is a long instruction in its range.
     ensures listed { IsSome result ↔ IsListedX insn.now }
 
-    // What is returned are its words.
+    // What is answered are its words.
     ensures words { IfSome result (λ long. CodeX insn.now long.l long.word) }
 
     // Each has the 41 bits of a slot.

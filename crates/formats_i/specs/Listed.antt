@@ -8,10 +8,10 @@ use Rattle.formats_i.specs.declared.rows.TheConstants.{ROWS}
 unfoldable pub rows : List Row
 rows = ROWS
 
--- The word is that of an I instruction.
+-- The word is that of the instruction, an I instruction,
 abbrev pub CodeI : Insn → ℕ → Type 0
 CodeI = HasRow rows
 
--- The instruction is an I instruction: it has a word.
+-- and the instruction is an I instruction: it has a word.
 abbrev pub IsListedI : Insn → Type 0
 IsListedI = IsListedBy rows

@@ -25,10 +25,10 @@ pub use rows::ROWS;
 /// chapter 4, instruction formats, I5 to I29). Where in its bundle the word stands is not looked at.
 #[tactic(auto, using(crate::proofs::Words::low))]
 pub fn decode_i(word: u64) -> Option<Insn>
-    // What is returned has this word.
+    // What is answered has this word.
     ensures found { IfSome result (λ i. CodeI i word) }
 
-    // An instruction that has this word is returned, so None comes only where none has it.
+    // An instruction that has this word is answered, so None comes only where none has it.
     ensures only { (i : Insn) → CodeI i word → result ≡ Some i }
 
     // A slot has 41 bits, of which the highest is 0 here, as the major opcode is below 8; no larger number is a word.
@@ -44,10 +44,10 @@ pub fn encode_i(insn: &Insn) -> Option<u64>
     // A word comes exactly where it is an I instruction in its ranges.
     ensures listed { IsSome result ↔ IsListedI insn.now }
 
-    // What is returned is its word.
+    // What is answered is its word.
     ensures found { IfSome result (λ w. CodeI insn.now w) }
 
-    // A word that it has is returned.
+    // A word that it has is answered.
     ensures only { (w : ℕ) → CodeI insn.now w → result ≡ Some w }
 
     // It has the 41 bits of a slot.

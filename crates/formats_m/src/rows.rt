@@ -1,5 +1,4 @@
-//! The rows of the M instructions (volume 3, chapter 4, instruction formats, M1 to M5, M16, M17 and M20 to M48, and the tables of
-//! opcodes).
+//! The rows of the M instructions (volume 3, chapter 4, instruction formats, M1 to M5, M16, M17 and M20 to M48, and the tables of opcodes).
 
 ghost use Rattle.std.specs.Prelude.{◌≡◌, IsTrue, map};
 ghost use Rattle.formats_m.specs.Listed.{rows};

@@ -20,7 +20,7 @@ pub alloc_free : (limit : ℕ) (old new : FrameShape) → limit ≡ STACK_LIMIT 
 unfolding alloc_fault_within
 alloc_free limit old new e h = rw e (grind arith)
 
--- An `alloc` without a fault in the register stack gives a frame that has room.
+-- and gives a frame that has room
 pub sized_frame : (limit : ℕ) (old : FrameShape) (sof sol sor : ℕ) → IsFrame old → sof ≤ 96 → sol ≤ sof → 8 * sor ≤ sof → alloc_fault_within limit old (with_sizes old sof sol sor) ≡ None → IsFrame (with_sizes old sof sol sor) × ((with_sizes old sof sol sor).base + (with_sizes old sof sol sor).sof ≤ limit)
 unfolding alloc_fault_within has_zero_bases
 sized_frame limit old sof sol sor frame size locals rotating free =

@@ -33,7 +33,7 @@ pub may_return : (limit base : ℕ) (f : FrameShape) → return_fault_within lim
 unfolding return_fault_within
 may_return limit base f e = unrefused BadFrame Underflow StackLimit limit base f e
 
--- The frame of a return is the one of the marker, at another base.
+-- its frame is the one of the marker, at another base
 pub rebased : (base to pfs : ℕ) → record (marked_frame base pfs) { base = to } ≡ marked_frame to pfs
 unfolding marked_frame
 rebased base to pfs = refl

@@ -9,20 +9,20 @@ use Rattle.ia_meaning.specs.Frames.{has_zero_bases, is_frame, return_fault}
 use Rattle.frame_shapes.specs.declared.fault.StackFault.{StackFault}
 use Rattle.frame_shapes.specs.declared.fault.StackFault.TheVariants.{OutOfFrame, BadFrame, Underflow, StackLimit, ReservedField}
 
--- Why `alloc` gives no new frame in place of the old one.
+-- why `alloc` gives no new frame in place of the old one
 unfoldable pub alloc_fault_within : ℕ → FrameShape → FrameShape → Option StackFault
 alloc_fault_within limit old new =
     if not (old.sor == new.sor) && not (has_zero_bases old) then Some ReservedField
     else if nat_lt limit (new.base + new.sof) then Some StackLimit else None
 
--- Why a return to a frame below this base is refused.
+-- why a return to a frame below this base is refused
 unfoldable pub return_fault_within : ℕ → ℕ → FrameShape → Option StackFault
 return_fault_within limit base f =
     if not (is_frame f) then Some BadFrame
     else if nat_lt base f.sol then Some Underflow
     else if nat_lt limit (base - f.sol + f.sof) then Some StackLimit else None
 
--- The fault of the slot for one of the register stack.
+-- the fault of the slot for one of the register stack
 abbrev pub kind_of : StackFault → FaultKind
 kind_of OutOfFrame = kind.OutOfFrame
 kind_of BadFrame = kind.BadFrame

@@ -95,9 +95,9 @@ pub fn with_sizes(frame: &FrameShape, sof: u8, sol: u8, sor: u8) -> FrameShape
     }
 }
 
-/// The fault of an `alloc` in a stack of at most `limit` cells, and None where it has none (volume 3, chapter 2, `alloc`). Its
-/// frame begins at cell 65,536 or before. The first of these that holds: `ReservedField` where `sor` changes and the rename bases
-/// aren't all 0; `StackLimit` where there are too many cells.
+/// Why `alloc` gives no new frame, which begins at cell 65,536 or before, in place of the old one (volume 3, chapter 2,
+/// `alloc`), in a stack of at most `limit` cells, where it gives none. The first of these that holds: `ReservedField`
+/// where `sor` changes and the rename bases aren't all 0; `StackLimit` where there are too many cells.
 #[tactic(auto, unfolding(crate::specs::Faults::alloc_fault_within))]
 pub fn alloc_fault_within(limit: u32, old: &FrameShape, new: &FrameShape) -> Option<StackFault>
     requires { new.now.base ≤ STACK_LIMIT }

@@ -62,9 +62,10 @@ fn is_frame(frame: &FrameShape) -> bool
         && rrbs.pr < 48
 }
 
-/// The fault of a return to a frame whose locals end at `base`, at most 65,536, in a stack of at most `limit` cells, and None
-/// where it has none (volume 3, chapter 2, `br.ret`). The first of these that holds: `BadFrame` where the sizes and bases are
-/// those of no frame; `Underflow` where the locals reach below the first cell; `StackLimit` where there are too many cells.
+/// Why a return to a frame is refused whose locals end at `base`, at most 65,536, in a stack of at most `limit` cells
+/// (volume 3, chapter 2, `br.ret`), where it is. The first of these that holds: `BadFrame` where the sizes and bases are
+/// those of no frame; `Underflow` where the locals reach below the first cell; `StackLimit` where there are too many
+/// cells.
 #[tactic(auto, unfolding(crate::specs::Faults::return_fault_within))]
 pub fn return_fault_within(limit: u32, base: u32, frame: &FrameShape) -> Option<StackFault>
     requires { base ≤ STACK_LIMIT }
@@ -98,9 +99,9 @@ pub fn returned_frame(base: u32, pfs: u64) -> FrameShape
     }
 }
 
-/// The fault of a return by a previous function state, from a frame at `base`, at most 65,536, in a stack of 65,536 cells, and
-/// None where it has none. Its marker may be that of no frame, the locals may reach below the first cell, or there may be too
-/// many cells.
+/// Why a return by a previous function state, from a frame at `base`, at most 65,536, is refused in a stack of 65,536
+/// cells, where it is: that its marker is that of no frame, that the locals reach below the first cell, or that there
+/// are too many cells.
 #[tactic(auto, using(crate::proofs::Returns::return_fault_is))]
 pub fn return_fault(base: u32, pfs: u64) -> Option<FaultKind>
     requires { base ≤ STACK_LIMIT }

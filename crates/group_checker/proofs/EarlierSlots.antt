@@ -14,7 +14,7 @@ at_once xs m a b h k = sym h.is ∙ get_or_default xs m a b h.short ∙ k.is
 pub earlier_at : (xs : List EarlierSlot) (m : ℕ) (d : EarlierSlot) → m < length xs → IsAt xs m (get_or xs m d)
 earlier_at xs m d l = record { short = l; is = get_or_default xs m (get_or xs m d) d l }
 
--- Each number below the length has some slot.
+-- and so it has some slot
 pub some_at : (xs : List EarlierSlot) (m : ℕ) → m < length xs → (e : EarlierSlot) × IsAt xs m e
 some_at xs m l = elim (slice_get_cases xs m).1 [
   | inl (x, short, is, at) ↦ (x, record { short = short; is = at })

@@ -36,7 +36,7 @@ no_resource s q none = elim (cases_Bool (has_resource s q)) [
   | inr f ↦ f
 ]
 
--- A set whose list isn't empty has a resource.
+-- and one whose list isn't empty has one
 some_resource : (s : ResourceSet) → (length (resources_in s) ≡ 0 → ⊥) → (q : Resource) × (has_resource s q ≡ true)
 some_resource s some = of (resources_in s) refl
   where
@@ -48,14 +48,14 @@ some_resource s some = of (resources_in s) refl
 pub nothing_broken : (b : Broken) → ((rule : Rule) → length (resources_in (broken_on b rule)) ≡ 0) → (v : Violation) → is_broken b v ≡ false
 nothing_broken b none v = no_resource (broken_on b v.rule) v.resource (none v.rule)
 
--- A rule is broken where its set has a resource.
+-- and one is broken where one has
 pub something_broken : (b : Broken) (rule : Rule) → (length (resources_in (broken_on b rule)) ≡ 0 → ⊥) → (v : Violation) × (is_broken b v ≡ true)
 something_broken b rule some =
     let (q, has) = some_resource (broken_on b rule) some in
     let place : Place = record { bundle = 0; slot = 0 } in
     (record { second = place; first = place; rule = rule; resource = q }, has)
 
--- Whether a rule is broken is told by how many resources the sets have.
+-- so it is told by how many resources the sets have
 pub broken_by_counts : (b : Broken) (raw waw war63 alloc clear : ℕ) → raw ≡ length (resources_in b.raw) → waw ≡ length (resources_in b.waw) → war63 ≡ length (resources_in b.war63) → alloc ≡ length (resources_in b.alloc_first) → clear ≡ length (resources_in b.clear_last)
     → (none : Bool) → eqb (raw + waw + war63 + alloc + clear) 0 ≡ none → OnTrue none ((v : Violation) → is_broken b v ≡ false) × OnFalse none ((v : Violation) × (is_broken b v ≡ true))
 broken_by_counts b raw waw war63 alloc clear q r s t u none e = by_test none e
@@ -101,7 +101,7 @@ pub first_violation_by : (first second : Place) (rule : Rule) (resources : Resou
 unfolding violations_by
 first_violation_by first second rule resources = slice_get-map (λ q. record { second = second; first = first; rule = rule; resource = q }) (resources_in resources) 0
 
--- The first violation of all rules is that of the first rule that has one.
+-- and of all rules it is that of the first rule that has one
 pub first_violation_of : (first second : Place) (b : Broken) → slice_get (violations_of first second b) 0
     ≡ option_or (option_or (option_or (option_or (slice_get (violations_by first second Raw b.raw) 0) (slice_get (violations_by first second Waw b.waw) 0)) (slice_get (violations_by first second War63 b.war63) 0)) (slice_get (violations_by first second AllocFirst b.alloc_first) 0)) (slice_get (violations_by first second ClearLast b.clear_last) 0)
 unfolding violations_of

@@ -27,7 +27,7 @@ use Rattle.group_checker.specs.declared.broken.Broken.{Broken}
 use Rattle.group_checker.specs.Broken.{Gains}
 use Rattle.group_checker.specs.Findings.{Finds, may_be_excused, excused_by, IsSlotRule}
 
--- What is gained is the same by a property that says the same.
+-- the same of a property that says the same
 pub gains_like : (old new : Broken) (P Q : Violation → Type 0) → ((v : Violation) → P v → Q v) → ((v : Violation) → Q v → P v) → Gains old new P → Gains old new Q
 gains_like old new P Q to from g = record {
   keeps = g.keeps;
@@ -112,7 +112,7 @@ parts_joined all parts p = let j = lists_joined parts.named.items p.placed all p
   split = λ a c. elim (j.split a c) [ inl d ↦ inl d | inr d ↦ inr (p.set.has a d) ];
 }
 
--- A finding stays one where its accesses are of other sorts.
+-- the same finding, of accesses of other sorts
 found_of : (e : EarlierSlot) (P Q R S : Access → Type 0) (v : Violation) (h : Finds e P Q v) → R h.first → S h.second → Finds e R S v
 found_of e P Q R S v h r s = record {
   first = h.first;

@@ -68,7 +68,7 @@ violates_by g has_stop i j v w is through breaks = record {
   breaks = subst (λ (k : Place). Breaks g has_stop w k v.rule v.resource) (sym is.0) breaks;
 }
 
--- A violation is broken on some walk through the first slot.
+-- and a violation is broken on one
 record BrokenOn (g : Graph) (has_stop : Place → Bool) (i j : Place) (v : Violation) : Type 0 where
   walk : Walk
   through : IsThrough g has_stop i j walk
@@ -126,7 +126,7 @@ latest g has_stop es j n e w win at end through =
     let same : end_of from.before ≡ e.place = one_before g (end_of from.before) e.place j edge (win.last n e at end) in
     subst (λ (l : List Place). IsLatest l e.place) (sym from.group) same
 
--- No slot but the last one of the window is the latest of the group on a walk through it.
+-- and no other slot is
 is_last : (g : Graph) (has_stop : Place → Bool) (es : List EarlierSlot) (j : Place) (n : ℕ) (e : EarlierSlot) (w : Walk) → IsWindow g has_stop es j → IsAt es n e → IsThrough g has_stop e.place j w → IsLatest (group_since has_stop w) e.place → n + 1 ≡ length es
 is_last g has_stop es j n e w win at through is = elim (cases_lt (n + 1) (length es)) [
   | inl l ↦ absurd (not_before_itself e.place (later l))

@@ -54,7 +54,7 @@ take_room n xs ys zs l e =
 pub shown_more : {A : Type 0} (n : ℕ) (xs zs : List A) (x : A) → length xs < n → zs ≡ xs ++ x ∷ [] → zs ≡ take n (xs ++ x ∷ [])
 shown_more n xs zs x l e = e ∙ sym (take_all n (xs ++ x ∷ []) (omega (arith, length-append xs (x ∷ []))))
 
--- No violation more is shown where there is no room.
+-- and none where there is none
 pub shown_full : {A : Type 0} (n : ℕ) (xs : List A) (x : A) → length xs ≤ n → n ≤ length xs → xs ≡ take n (xs ++ x ∷ [])
 shown_full n xs x l m = take_room n xs (x ∷ []) xs l (let none : n - length xs ≡ 0 = omega arith in rw none (sym (append-nil xs)))
 
@@ -135,11 +135,11 @@ list_append P Q R xs ys p q r before a b = record {
   only = λ v c. elim (Contains-append_cases xs ys v c) [ inl d ↦ p v (a.only v d) | inr d ↦ q v (b.only v d) ];
 }
 
--- A list of violations is one by a property that says the same.
+-- the same list, told by a property that says the same
 list_like : (P Q : Violation → Type 0) (xs : List Violation) → ((v : Violation) → P v → Q v) → ((v : Violation) → Q v → P v) → IsListOf P xs → IsListOf Q xs
 list_like P Q xs to from a = record { rises = a.rises; has = λ v q. a.has v (from v q); only = λ v c. to v (a.only v c) }
 
--- A report is one of other violations that are the same.
+-- the same report, told of other violations
 retold : (p : Program) (r : Report) (P Q : Violation → Type 0) (bound more : ℕ) → bound ≤ more → ((v : Violation) → Violates p v → P v → Q v) → ((v : Violation) → Violates p v → Q v → P v) → HasReported p r P bound → HasReported p r Q more
 retold p r P Q bound more l to from u = record {
   all = u.all;
@@ -200,7 +200,7 @@ pair_listed g has_stop es j n e b at all =
     nth : (v : Violation) → IsPair e.place j v → IsNthPair es n j v
     nth v pair = record { slot = e; at = at; pair = pair }
 
--- What is reported stays with a pair of slots that breaks no rule.
+-- and of one that breaks no rule
 pub pair_apart : (p : Program) (r : Report) (es : List EarlierSlot) (j : Place) (n bound : ℕ) → ((v : Violation) → IsNthPair es n j v → ¬ Violates p v) → HasReported p r (IsEarlierPair es j n) bound → HasReported p r (IsEarlierPair es j (n + 1)) (bound + pair_bound)
 pair_apart p r es j n bound none u = retold p r (IsEarlierPair es j n) (IsEarlierPair es j (n + 1)) bound (bound + pair_bound) (omega arith) wider less u
   where
@@ -223,7 +223,7 @@ none_of_second p r es j bound u = retold p r (IsEarlier j) (IsEarlierPair es j 0
     of v (inl h) = h
     of v (inr h) = absurd (omega (arith, h.1.below))
 
--- Past the last slot of the window all violations with one second slot are reported.
+-- and past the last
 pub second_reported : (p : Program) (r : Report) (es : List EarlierSlot) (j : Place) (bound : ℕ) → IsWindow (over_program p) (is_stopped p.bundles) es j → HasReported p r (IsEarlierPair es j (length es)) bound → HasReported p r (IsUpTo j) bound
 second_reported p r es j bound win u = retold p r (IsEarlierPair es j (length es)) (IsUpTo j) bound bound (omega arith) (λ v x h. less v h) more u
   where

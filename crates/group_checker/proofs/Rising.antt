@@ -95,7 +95,7 @@ same_rule ClearLast = refl
 pub precedes_by_rule : (v w : Violation) → v.second ≡ w.second → v.first ≡ w.first → rule_cmp v.rule w.rule ≡ Less → Precedes v w
 precedes_by_rule v w e f h = rw (e, f, tied_itself places.total-law w.second, tied_itself places.total-law w.first, h) refl
 
--- Of two violations of one rule by the same slots, the one on the earlier resource comes first.
+-- and of one rule they are in the order of the resources
 pub compared_by_resource : (second first : Place) (rule : Rule) (q r : Resource) → compare (record { second = second; first = first; rule = rule; resource = q }) (record { second = second; first = first; rule = rule; resource = r }) ≡ resource_cmp q r
 compared_by_resource second first rule q r = rw (tied_itself places.total-law second, tied_itself places.total-law first, same_rule rule) refl
 

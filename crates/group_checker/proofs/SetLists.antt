@@ -110,7 +110,7 @@ apart p sort next a b h x y c d =
     let (n, _, f) = from_numbered next b 0 y (from_filter p (numbered next b 0) y d).0 in
     subst (λ (q : Resource). resource_cmp q y ≡ Less) e (subst (λ (r : Resource). resource_cmp (sort m) r ≡ Less) f (h m n))
 
--- Resources that have no number come last.
+-- those that have no number come last
 last : (p : Resource → Bool) (sort : ℕ → Resource) (a : ℕ) → ((m : ℕ) → Each (λ q. resource_cmp (sort m) q ≡ Less) others) → (x y : Resource) → Contains (filter p (numbered sort a 0)) x → Contains (filter p others) y → resource_cmp x y ≡ Less
 last p sort a h x y c d =
     let (m, _, e) = from_numbered sort a 0 x (from_filter p (numbered sort a 0) x c).0 in
@@ -144,7 +144,7 @@ resources_rise s =
       | inr k ↦ last p Br 8 (λ m. (refl, (refl, (refl, (refl, (refl, tt)))))) x y k d
     ])
 
--- The list has what the set has.
+-- it has what the set has
 module _ (s : ResourceSet) where
   abbrev of : List Resource → List Resource
   of all = filter (has_resource s) all
@@ -175,7 +175,7 @@ module _ (s : ResourceSet) where
   in_resources Ec h = in_last Ec (3, omega arith, refl) h
   in_resources Cfm h = in_last Cfm (4, omega arith, refl) h
 
--- The list has nothing but what the set has.
+-- and nothing else
 pub from_resources : (s : ResourceSet) (q : Resource) → Contains (resources_in s) q → has_resource s q ≡ true
 unfolding resources_in
 from_resources s q c =

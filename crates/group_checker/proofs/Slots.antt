@@ -59,7 +59,7 @@ module _ (g : Graph) (has_stop : Place → Bool) (j : Place) (s : Slot) (d : Des
         unstopped = sym d.stop ∙ not-true s.stop goes;
       }
 
-  -- Where control falls from a slot that doesn't join the next one, a stop follows.
+  -- and not from another one
   pub slot_parts : (next : Place) → joins s ≡ false → IsEdgeIn g j Falls next → has_stop j ≡ true
   slot_parts next parted edge =
       let fall = fall_is g j next edge in

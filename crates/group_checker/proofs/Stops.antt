@@ -29,7 +29,7 @@ groups_agree g has_stop other (goes_on w Falls place) is agree =
     up = falls_up g (end_of w) place is.1
 
 module _ (g : Graph) (has_stop other : Place → Bool) (w : Walk) (same : group_since has_stop w ≡ group_since other w) where
-  -- Two accesses are excused with the other stops where they were with these.
+  -- so two accesses are excused where they were
   excused_back : (i : Place) (first second : ℕ) → IsExcused g other w i first second → IsExcused g has_stop w i first second
   excused_back i first second x = record {
     known = x.known;
@@ -84,7 +84,7 @@ carried_on g has_stop other j e agree is = record {
   below = is.below;
 }
 
--- A window looks only at the stops before its place.
+-- and a window at those before its place
 pub windows_agree : WindowsAgree
 windows_agree g has_stop other es j agree win = record {
   size = win.size;

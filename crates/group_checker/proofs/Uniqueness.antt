@@ -31,7 +31,7 @@ one_report p r s a b =
     let shown : r.shown ≡ s.shown = a.shows.shown ∙ ap (λ (l : List Violation). take SHOWN_LIMIT l) same ∙ sym b.shows.shown in
     λ i. record { total = total i; shown = shown i }
 
--- Two verdicts on one program are the same.
+-- and so are two verdicts
 pub same_verdict : OneVerdict
 same_verdict p (Accepted q) (Accepted r) a b = ap Accepted (a.0 ∙ sym b.0)
 same_verdict p (Accepted q) (Violations s) a b = absurd (not_free p s b a.1)

@@ -68,7 +68,7 @@ came g has_stop j next w i is follows there c =
 pub unreached_window : (g : Graph) (has_stop : Place → Bool) (j next : Place) → IsPlaceIn g j → next_in g j ≡ Some next → NoWalkIn g j → IsWindow g has_stop [] next
 unreached_window g has_stop j next is follows none = empty_window g has_stop next (λ w there i c. let b = came g has_stop j next w i is follows there c in none b.before b.there)
 
--- Where control doesn't fall from a place within a group, the next place has an empty window.
+-- the same where control does not fall from the place within a group
 pub parted_window : (g : Graph) (has_stop : Place → Bool) (j next : Place) → IsPlaceIn g j → next_in g j ≡ Some next → (IsEdgeIn g j Falls next → has_stop j ≡ true) → IsWindow g has_stop [] next
 parted_window g has_stop j next is follows stops = empty_window g has_stop next (λ w there i c.
     let b = came g has_stop j next w i is follows there c in true≢false (sym (stops b.edge) ∙ b.unstopped))
@@ -83,12 +83,12 @@ pub record Joins (g : Graph) (has_stop : Place → Bool) (j next : Place) : Type
 goes_there : (g : Graph) (has_stop : Place → Bool) (j next : Place) (w : Walk) → Joins g has_stop j next → EndsIn g j w → EndsIn g next (goes_on w Falls next)
 goes_there g has_stop j next w join there = record { walks = (there.walks, subst (λ (k : Place). IsEdgeIn g k Falls next) (sym there.ends) join.edge); ends = refl }
 
--- The group of a walk that goes on within it has the place that it comes from.
+-- then its group has the place too
 goes_group : (g : Graph) (has_stop : Place → Bool) (j next : Place) (w : Walk) → Joins g has_stop j next → EndsIn g j w → group_since has_stop (goes_on w Falls next) ≡ j ∷ group_since has_stop w
 goes_group g has_stop j next w join there =
     falls_group has_stop w next (ap (λ (k : Place). has_stop k) there.ends ∙ join.unstopped) ∙ ap (λ (k : Place). k ∷ group_since has_stop w) there.ends
 
--- A walk that goes on along a fall knows what is known past the instruction.
+-- and it knows what is known past the instruction
 goes_facts : (g : Graph) (j next : Place) (w : Walk) → EndsIn g j w → facts_in g (goes_on w Falls next) ≡ pairs_past_in g j Falls (facts_in g w)
 goes_facts g j next w there = ap (λ (k : Place). pairs_past_in g k Falls (facts_in g w)) there.ends
 
@@ -96,7 +96,7 @@ goes_facts g j next w there = ap (λ (k : Place). pairs_past_in g k Falls (facts
 passed_before : (g : Graph) (has_stop : Place → Bool) (j next i : Place) (w : Walk) (b : Came g has_stop j next w) → Contains (group_since has_stop w) i → (j ≡ i) ⊎ Contains (group_since has_stop b.before) i
 passed_before g has_stop j next i w b c = cases_in j i (group_since has_stop b.before) (subst (λ (l : List Place). Contains l i) b.group c)
 
--- A walk through an earlier slot that goes on passed that slot before.
+-- so it is of a walk through an earlier slot, which passes that slot before
 through_before : (g : Graph) (has_stop : Place → Bool) (j next i : Place) (w : Walk) → Joins g has_stop j next → IsBefore i j → IsThrough g has_stop i next w → (b : Came g has_stop j next w) × IsThrough g has_stop i j b.before
 through_before g has_stop j next i w join low h =
     let b = came g has_stop j next w i join.is (falls_next g j next join.edge) h.there h.inside in (
@@ -124,7 +124,7 @@ old_walks g has_stop j next i join low = record {
   back = λ w h. let (b, t) = through_before g has_stop j next i w join low h in (b.before, t, b.facts);
 }
 
--- The walks that end at the slot itself go on.
+-- and so do those that end at the slot itself
 new_walks : (g : Graph) (has_stop : Place → Bool) (j next : Place) → Joins g has_stop j next → GoOn g j (EndsIn g j) (IsThrough g has_stop j next)
 new_walks g has_stop j next join = record {
   on = λ w h. (
@@ -261,7 +261,7 @@ written_old g j mask old new e m a b is masks adv low win on = subst (IsWritten 
   ];
 })
 
--- What may be written from the slot that is left on.
+-- and from the slot that is left on
 written_new : (g : Graph) (j : Place) (mask : ℕ) (old new : List EarlierSlot) (e : EarlierSlot) → e.place ≡ j → IsGuardMask mask (accesses_at g j) → HasAdvanced g j mask old new (length old) → IsWritten g (new ++ e ∷ []) (length new) mask
 written_new g j mask old new e is masks adv = record {
   has = λ guard l h. elim (writer_on g j mask old new e (length new) guard is adv h) [

@@ -20,12 +20,12 @@ broken_on b ClearLast = b.clear_last
 abbrev pub is_broken : Broken → Violation → Bool
 is_broken b v = has_resource (broken_on b v.rule) v.resource
 
--- The violations of one rule by two slots, one for each resource of a set.
+-- the violations of a rule by two slots, one for each resource of a set
 unfoldable pub violations_by : (first second : Place) → Rule → ResourceSet → List Violation
 violations_by first second rule resources =
     map (λ q. record { second = second; first = first; rule = rule; resource = q }) (resources_in resources)
 
--- The violations of all rules by two slots, in the order of the rules.
+-- and of all rules, in order
 unfoldable pub violations_of : (first second : Place) → Broken → List Violation
 violations_of first second b =
     (((violations_by first second Raw b.raw ++ violations_by first second Waw b.waw) ++ violations_by first second War63 b.war63)

@@ -14,21 +14,21 @@ use Rattle.resource_sets.specs.declared.clashes.Rule.TheVariants.{Raw, Waw, War6
 use Rattle.resource_sets.specs.contracts.clashes.RuleOrd.TheImpl as rules
 use Rattle.order_laws.specs.declared.violation.Violation.{Violation}
 
--- The order that places derive: by the bundle, then by the slot.
+-- The orders that places, rules and resources derive, which are these: places are in order of the bundle, then of the slot,
 abbrev pub place_cmp : Place → Place → Ordering
 place_cmp = (places.ghosts).cmp
 
 abbrev pub PlacesInOrder : Type 0
 PlacesInOrder = (a b : Place) → place_cmp a b ≡ ordering_then (nat_cmp a.bundle b.bundle) (nat_cmp a.slot b.slot)
 
--- The order that rules derive: from RAW to CLEAR.
+-- rules from RAW to CLEAR,
 abbrev pub rule_cmp : Rule → Rule → Ordering
 rule_cmp = (rules.ghosts).cmp
 
 abbrev pub RulesInOrder : Type 0
 RulesInOrder = (rule_cmp Raw Waw ≡ Less) × (rule_cmp Waw War63 ≡ Less) × (rule_cmp War63 AllocFirst ≡ Less) × (rule_cmp AllocFirst ClearLast ≡ Less)
 
--- The order that resources derive: from the general registers to the frame marker, those of one sort by their numbers.
+-- and resources from the general registers to the frame marker, those of one sort in the order of their numbers.
 abbrev pub resource_cmp : Resource → Resource → Ordering
 resource_cmp = (resources.ghosts).cmp
 
@@ -51,7 +51,7 @@ compare v w =
 abbrev pub Precedes : Violation → Violation → Type 0
 Precedes v w = compare v w ≡ Less
 
--- Each violation is reported before all later ones.
+-- each is before all later ones
 abbrev pub Rises : List Violation → Type 0
 Rises all = IsStrictlySortedBy compare all
 

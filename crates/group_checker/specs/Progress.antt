@@ -13,15 +13,15 @@ use Rattle.group_checker.specs.Reports.{Shows}
 use Rattle.group_checker.specs.Shown.{Report}
 use Rattle.group_checker.specs.Windows.{HasPlace}
 
--- A number above that of each place of a program: a bundle has three.
+-- above the number of each place of a program: a bundle has three
 abbrev pub place_bound : ℕ
 place_bound = 3 * BUNDLE_LIMIT
 
--- The most violations of two slots: one for each rule and resource.
+-- as many violations as two slots have at most: one for each rule and resource
 abbrev pub pair_bound : ℕ
 pair_bound = 5 * RESOURCE_COUNT
 
--- The most violations with one second slot.
+-- and as one second slot has
 abbrev pub second_bound : ℕ
 second_bound = pair_bound * place_bound
 
@@ -32,13 +32,13 @@ pub record HasReported (p : Program) (r : Report) (IsDone : Violation → Type 0
   pub shows : Shows r all
   pub small : length all ≤ bound
 
--- All violations of the program are reported.
+-- All are.
 pub record ReportsAll (p : Program) (r : Report) : Type 0 where
   pub all : List Violation
   pub list : IsListOf (Violates p) all
   pub shows : Shows r all
 
--- The violation's second slot comes before slot j.
+-- those with an earlier second slot
 abbrev pub IsEarlier : Place → Violation → Type 0
 IsEarlier j v = IsBefore v.second j
 
@@ -47,10 +47,10 @@ pub record IsAmong (window : List EarlierSlot) (n : ℕ) (place : Place) : Type 
   pub has : HasPlace window place
   pub below : has.index < n
 
--- The violation's second slot comes before slot j, or it is j and the first slot is one of the first n of j's window.
+-- and those of j with one of the first n slots of its window
 abbrev pub IsEarlierPair : List EarlierSlot → Place → ℕ → Violation → Type 0
 IsEarlierPair window j n v = IsBefore v.second j ⊎ ((v.second ≡ j) × IsAmong window n v.first)
 
--- The violation's second slot is slot j or comes before it.
+-- and all those of j
 abbrev pub IsUpTo : Place → Violation → Type 0
 IsUpTo j v = IsBefore v.second j ⊎ (v.second ≡ j)

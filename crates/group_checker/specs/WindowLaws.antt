@@ -19,7 +19,7 @@ use Rattle.group_checker.specs.Windows.{IsWindow, Describes}
 abbrev pub FirstWindow : Type 0
 FirstWindow = (g : Graph) (has_stop : Place → Bool) → IsWindow g has_stop [] (first_of 0)
 
--- At a place that comes next after a stop no slot is earlier in the group.
+-- Nor is one at a place that comes next after a stop.
 abbrev pub PartedWindow : Type 0
 PartedWindow =
     (g : Graph) (has_stop : Place → Bool) (j next : Place) → IsPlaceIn g j → has_stop j ≡ true → next_in g j ≡ Some next
@@ -50,13 +50,13 @@ GroupsAgree =
     (g : Graph) (has_stop other : Place → Bool) (w : Walk) → IsWalkIn g w → AgreeBefore (end_of w) has_stop other
     → group_since has_stop w ≡ group_since other w
 
--- A violation looks only at the stops before its second slot.
+-- A violation looks only at those before the second slot.
 abbrev pub ViolationsAgree : Type 0
 ViolationsAgree =
     (g : Graph) (has_stop other : Place → Bool) (v : Violation) → AgreeBefore v.second has_stop other
     → ViolatesIn g has_stop v → ViolatesIn g other v
 
--- A window looks only at the stops before its place.
+-- And a window at those before its place.
 abbrev pub WindowsAgree : Type 0
 WindowsAgree =
     (g : Graph) (has_stop other : Place → Bool) (es : List EarlierSlot) (j : Place) → AgreeBefore j has_stop other

@@ -27,7 +27,7 @@ impl<'p> Model for Accepted<'p> {
 }
 
 impl<'p> Accepted<'p> {
-    /// The accepted program of these slots.
+    /// That of these slots.
     pub(crate) fn of(slots: SlotTable<'p>) -> Accepted<'p>
         requires { HasNoViolation slots }
         ensures { result ≡ slots.entry }

@@ -93,7 +93,7 @@ fn pass_all(window: &mut Vec<EarlierSlot>, slot: &Slot, mask: u64, mut passed: P
 }
 
 /// Takes the earlier slots past the one under way, which may write the predicates of the mask and before which `here` is known
-/// on all walks that end there. Returns what is known past it on these.
+/// on all walks that end there. Answers what is known past it on these.
 pub(crate) fn advance(window: &mut Vec<EarlierSlot>, slot: &Slot, mask: u64, here: &Facts) -> Facts
     ensures known { pairs_of result ≡ pairs_by (pairs_of here.now) (action_rule slot.now.action Falls slot.now.qp) }
     ensures advanced { (g : Graph) (has_stop : Place → Bool) (j : Place) → Describes g has_stop j slot.now → HasAdvanced g j mask window.old.items window.new.items (length window.old.items) }

@@ -50,7 +50,7 @@ impl Report {
         self.total
     }
 
-    /// The violations that are shown: at most the first `SHOWN_LIMIT`, in order of the second slot, the first, the rule and the
+    /// All of them, but at most the first `SHOWN_LIMIT`, in order of the second slot, the first, the rule and the
     /// resource.
     pub fn shown(&self) -> &[Violation]
         ensures { result.now ≡ self.now.shown }

@@ -33,9 +33,10 @@ pub(crate) struct EarlierSlot {
     pub masks: Masks,
 }
 
-/// The slots that are earlier in the group of the slot under way on some walk, in order, with what is known of them there (volume
-/// 1, chapter 3, instruction dependencies). Contracts see the list of the slots. The slots are those of a program or of a
-/// sequence of instructions, with whatever stops the caller goes by: the window knows neither.
+/// The slots that are earlier in the group of the slot under way on some walk, in order, with what is known of them
+/// there (volume 1, chapter 3, instruction dependencies). The slots are those of a program or of a sequence of
+/// instructions, with the stops that the caller has in mind: the window knows neither. Contracts see the list of the
+/// slots.
 #[derive(Drop)]
 pub struct Window {
     slots: Vec<EarlierSlot>,

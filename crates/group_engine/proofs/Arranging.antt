@@ -51,7 +51,7 @@ alone x [] (suc k) h = absurd (omega (arith, h))
 alone x (y ∷ ys) zero h = refl
 alone x (y ∷ ys) (suc k) h = alone y ys k (omega (arith, h))
 
--- The items before the one at k, and those after it.
+-- those before it, and those after it
 around : {X : Type 0} (x : X) (xs : List X) (k : ℕ) → k ≤ length xs → take k (take (suc k) (x ∷ xs)) ++ drop (suc k) (x ∷ xs) ≡ others x xs k
 around x [] zero h = refl
 around x [] (suc k) h = absurd (omega (arith, h))

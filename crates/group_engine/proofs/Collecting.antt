@@ -46,19 +46,19 @@ p0_unwritten f p b e = rw e refl
 left_from : (n : ℕ) → n < 64 → 64 - n ≡ suc (64 - (n + 1))
 left_from n h = omega arith
 
--- One predicate more, which the mask has, is kept with its write.
+-- One place more, which the mask has,
 pub place_kept : (n mask x : ℕ) (k : Kept) → n < 64 → is_masked mask n ≡ true → keeping (masked_writes (64 - n) n mask x) k ≡ keeping (masked_writes (64 - (n + 1)) (n + 1) mask x) (keeping (SetPredicate n (bit x n) ∷ []) k)
 place_kept n mask x k h e = rw (left_from n h, e, kept_on (SetPredicate n (bit x n) ∷ []) (masked_writes (64 - (n + 1)) (n + 1) mask x) k) (grind arith)
 
--- One predicate more, which the mask doesn't have, is kept as it was.
+-- or which it doesn't have.
 pub place_left : (n mask x : ℕ) (k : Kept) → n < 64 → is_masked mask n ≡ false → keeping (masked_writes (64 - n) n mask x) k ≡ keeping (masked_writes (64 - (n + 1)) (n + 1) mask x) k
 place_left n mask x k h e = rw (left_from n h, e) (grind arith)
 
--- What a slot sees of general registers is what stands there.
+-- what a slot sees of general registers is what stands there,
 pub seen_look : (r : Registers) (s : BranchInputs) (n : ℕ) → look (seen_by r s) n ≡ look r n
 seen_look r s n = sym (look_seen r s n)
 
--- What a slot sees of general registers is the same whatever previous function state it sees.
+-- whatever previous function state it sees
 pub look_with_pfs : (r : Registers) (pfs n : ℕ) → look (record r { pfs = pfs }) n ≡ look r n
 look_with_pfs r pfs n = seen_look r (record { predicates = r.predicates; branches = r.branches; pfs = pfs }) n
 
@@ -83,7 +83,7 @@ writes_seen r s (Called b1 address) = refl
 writes_seen r s Returned = refl
 writes_seen r s (Cleared pred_only) = refl
 
--- What a slot does to memory is a matter of the general registers and the frame alone.
+-- What it does to memory is a matter of the general registers and the frame alone,
 pub memory_seen : (r : Registers) (s : BranchInputs) (c : Change) (m : Memory) → memory_after (seen_by r s) c m ≡ memory_after r c m
 memory_seen r s Nothing m = refl
 memory_seen r s (General r1 cell) m = refl
@@ -104,7 +104,7 @@ memory_seen r s (Called b1 address) m = refl
 memory_seen r s Returned m = refl
 memory_seen r s (Cleared pred_only) m = refl
 
--- What a slot spills is a matter of the general registers and the frame alone.
+-- and so is what it spills.
 pub spills_seen : (r : Registers) (s : BranchInputs) (c : Change) → spills_of (seen_by r s) c ≡ spills_of r c
 spills_seen r s (Stored r3 size spills update cell) = simp seen_look
 spills_seen r s c = refl

@@ -51,7 +51,7 @@ group_no_limit : (number : ℕ) (p : Program) (s : State) → IsNoLimit (numbere
 unfolding numbered_group
 group_no_limit number p s = within_no_limit RUN_LIMIT p true (gathered_from s)
 
--- An end that isn't the limit lasts.
+-- so such an end lasts
 lasts : (end : End) → IsNoLimit (Some end) → lasting end ≡ Some end
 lasts (Break imm place) h = refl
 lasts (Limit place) h = absurd h
@@ -111,11 +111,11 @@ rest_is (suc n) number at e none =
 after_is_run : (e after : Engine) (run : Run) → HasRest e after run → after ≡ after_run run e
 after_is_run e after run h = rw (← h.program, ← h.state, ← h.end, ← h.groups, ← h.range) refl
 
--- Going n groups further leaves what the run of n groups leaves.
+-- So many groups further is what the run of so many groups leaves.
 pub further_is_run : (n number : ℕ) (e : Engine) → e.end ≡ None → groups_further n number e ≡ after_run (numbered_run e.program n number e.state) e
 further_is_run n number e none = after_is_run e (groups_further n number e) (numbered_run e.program n number e.state) (rest_is n number 1 e none)
 
--- Going n groups further ends as the run of n groups.
+-- and it ends as that
 pub further_ends : (n number : ℕ) (e : Engine) → e.end ≡ None → end_of (groups_further n number e) ≡ (numbered_run e.program n number e.state).end
 further_ends n number e none = let h = rest_is n number 1 e none in h.ends
 

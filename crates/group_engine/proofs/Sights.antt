@@ -61,7 +61,7 @@ sighted f place latest start = record {
 guard_seen : (f : Action) (place : ℕ) (base now : List Bool) → is_branch f ≡ true → seen_in (λ n. n == place) 0 base now ≡ seen_in (λ n. is_branch f && (n == place)) 0 base now
 guard_seen f place base now e = rw e refl
 
--- What a branch sees of the registers that steer it is what the view has of them.
+-- It is what the view has of them.
 pub sight_is : (insn : Insn) (now base : Registers) (f : Action) (qp : ℕ) (latest : BranchInputs) → is_branch f ≡ true → insn_action insn ≡ f → insn.qp ≡ qp → branch_inputs_of now ≡ latest
     → sighted f (predicate_index base.frame qp) latest (branch_inputs_of base) ≡ branch_inputs_of (view insn now base)
 sight_is insn now base f qp latest branch action_is qp_is latest_is =

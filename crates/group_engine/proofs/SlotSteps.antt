@@ -61,30 +61,30 @@ module _ (p : Program) (begins first : Bool) (g next : Gathered) (slot : Slot) (
   takes_in : (place : Place) → Takes place → gathers (begins && is_alloc (insn_action h.of.insn)) g does place ≡ next
   takes_in place took = rw (← same_flag) (gathers_falling first g (record g.base { pfs = pfs }) e place ∙ sym took)
 
-  -- A slot that falls where there is no place ends the run with a fault.
+  -- It falls where there is no place.
   pub fell_off : e.next ≡ Falls → slot.next ≡ None → (most : ℕ) → HasGathered (rest_of (suc most) p begins g) g (Some (Fault FellOff g.place))
   fell_off falls none most =
       fell p begins g h.of.insn does h.of.here (sym h.does.value) most falls (ap (λ (s : Slot). s.next) h.of.is ∙ none)
 
-  -- A slot that falls through to a stop ends the group.
+  -- It falls through to a stop,
   pub ends_group : (place : Place) → Takes place → e.next ≡ Falls → slot.next ≡ Some place → slot.stop ≡ true → (most : ℕ) → HasGathered (rest_of (suc most) p begins g) next None
   ends_group place took falls to stop most =
       subst (λ all. HasGathered (rest_of (suc most) p begins g) all None) (takes_in place took)
       (stops p begins g h.of.insn does h.of.here (sym h.does.value) most place falls (ap (λ (s : Slot). s.next) h.of.is ∙ to) (ap (λ (s : Slot). s.stop) h.of.is ∙ stop))
 
-  -- A slot that falls through without a stop stays within its group.
+  -- or within its group.
   pub stays : (place : Place) → Takes place → e.next ≡ Falls → slot.next ≡ Some place → slot.stop ≡ false → (most : ℕ) → HasRestOf (rest_of (suc most) p begins g) (rest_of most p false next)
   stays place took falls to stop most =
       subst (λ all. HasRestOf (rest_of (suc most) p begins g) (rest_of most p false all)) (takes_in place took)
       (goes_on p begins g h.of.insn does h.of.here (sym h.does.value) most place falls (ap (λ (s : Slot). s.next) h.of.is ∙ to) (ap (λ (s : Slot). s.stop) h.of.is ∙ stop))
 
-  -- A slot that branches ends the group.
+  -- It branches.
   pub branches : (bundle : ℕ) → Takes (first_of bundle) → e.next ≡ Goes bundle → (most : ℕ) → HasGathered (rest_of (suc most) p begins g) next None
   branches bundle took taken most =
       subst (λ all. HasGathered (rest_of (suc most) p begins g) all None) (takes_in (first_of bundle) took)
       (goes p begins g h.of.insn does h.of.here (sym h.does.value) most bundle taken)
 
-  -- A slot that ends the run by a `break` ends the group.
+  -- It ends the run.
   pub ends_run : (imm : ℕ) → e.next ≡ Breaks imm → (most : ℕ) → HasGathered (rest_of (suc most) p begins g) g (Some (Break imm g.place))
   ends_run imm stop most = breaks_off p begins g h.of.insn does h.of.here (sym h.does.value) most imm stop
 

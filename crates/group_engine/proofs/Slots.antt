@@ -36,15 +36,15 @@ module _ (p : Program) (begins : Bool) (g : Gathered) (insn : Insn) (o : Outcome
   pub fell : (most : ℕ) → o.next ≡ Falls → next_of p.bundles g.place ≡ None → HasGathered (rest_of (suc most) p begins g) g (Some (Fault FellOff g.place))
   fell most falls none = rw (stepped most, none, falls) (record { all = refl; end = refl; over = refl })
 
-  -- A slot that falls through to a stop ends the group.
+  -- One that falls through to a stop ends the group,
   pub stops : (most : ℕ) (next : Place) → o.next ≡ Falls → next_of p.bundles g.place ≡ Some next → is_stopped p.bundles g.place ≡ true → HasGathered (rest_of (suc most) p begins g) (gathers first g o next) None
   stops most next falls to stop = rw (stepped most, to, falls, stop, to) (record { all = refl; end = refl; over = refl })
 
-  -- After a slot that falls through without a stop the group goes on.
+  -- and else the group goes on.
   pub goes_on : (most : ℕ) (next : Place) → o.next ≡ Falls → next_of p.bundles g.place ≡ Some next → is_stopped p.bundles g.place ≡ false → HasRestOf (rest_of (suc most) p begins g) (rest_of most p false (gathers first g o next))
   goes_on most next falls to stop = rw (stepped most, to, falls, stop) (record { all = refl; end = refl; how = refl })
 
-  -- A branch that is taken ends the group.
+  -- So does a branch that is taken,
   pub goes : (most bundle : ℕ) → o.next ≡ Goes bundle → HasGathered (rest_of (suc most) p begins g) (gathers first g o (first_of bundle)) None
   goes most bundle taken = of (next_of p.bundles g.place) refl
     where
@@ -52,7 +52,7 @@ module _ (p : Program) (begins : Bool) (g : Gathered) (insn : Insn) (o : Outcome
       of None to = rw (stepped most, to, taken) (record { all = refl; end = refl; over = refl })
       of (Some next) to = rw (stepped most, to, taken) (record { all = refl; end = refl; over = refl })
 
-  -- A `break` ends the group, and the run.
+  -- a `break`,
   pub breaks_off : (most imm : ℕ) → o.next ≡ Breaks imm → HasGathered (rest_of (suc most) p begins g) g (Some (Break imm g.place))
   breaks_off most imm stop = of (next_of p.bundles g.place) refl
     where
@@ -60,7 +60,7 @@ module _ (p : Program) (begins : Bool) (g : Gathered) (insn : Insn) (o : Outcome
       of None to = rw (stepped most, to, stop) (record { all = refl; end = refl; over = refl })
       of (Some next) to = rw (stepped most, to, stop) (record { all = refl; end = refl; over = refl })
 
-  -- A fault ends the group, and the run.
+  -- and a fault.
   pub faulted : (most : ℕ) (kind : FaultKind) → o.next ≡ Faults kind → HasGathered (rest_of (suc most) p begins g) g (Some (Fault kind g.place))
   faulted most kind fault = of (next_of p.bundles g.place) refl
     where

@@ -57,7 +57,7 @@ length_predicates [] r = refl
 length_predicates (SetPredicate n b ∷ ws) r = length_predicates ws (put (SetPredicate n b) r) ∙ length-set r.predicates n b
 length_predicates (w ∷ ws) r = length_predicates ws (put w r)
 
--- A branch sees its qualifying predicate as earlier slots wrote it.
+-- A branch sees its qualifying predicate as earlier slots wrote it,
 guard_seen : (insn : Insn) (now base : Registers) → is_branch (insn_action insn) ≡ true → length now.predicates ≡ length base.predicates → holds (seen_by base (branch_inputs_of now)) insn.qp ≡ holds (view insn now base) insn.qp
 guard_seen insn now base branch same =
     let place = predicate_index base.frame insn.qp in
@@ -66,7 +66,7 @@ guard_seen insn now base branch same =
     holds_by_place (seen_by base (branch_inputs_of now)) (view insn now base) insn.qp
     (λ _. sym (seen_at (sees_predicate insn base.frame) 0 place base.predicates now.predicates false same ∙ ap (λ (b : Bool). if b then get_or now.predicates place false else get_or base.predicates place false) sees))
 
--- A slot is executed exactly where its predicate is 1 in the view of its instruction.
+-- and all others see it as it stood at the group's start.
 executed_is : (insn : Insn) (g : Gathered) (slot : Slot) → insn_action insn ≡ slot.action → insn.qp ≡ slot.qp → is_executed slot g ≡ holds (view insn (now_of g) g.base) insn.qp
 executed_is insn g slot action qp = of (is_branch slot.action) refl
   where
@@ -85,12 +85,12 @@ comes_next p g slot program at =
     let r = in_range p g.place i.insn program i.here in
     record { at = at; bundle = r.bundle; ranges = subst (λ (s : Slot). HasActionRanges s.action) i.is r.ranges }
 
--- The slot at the place of a group is that of the instruction there.
+-- and it is that of the instruction there
 pub slot_of_insn : (p : Program) (g : Gathered) (slot : Slot) (insn : Insn) → ComesNext p g slot → insn_at p.bundles g.place ≡ Some insn → slot_of p.bundles g.place insn ≡ slot
 slot_of_insn p g slot insn next at =
     let i = slot_is p.bundles g.place slot next.at in ap (slot_of p.bundles g.place) (same_Some _ _ (sym at ∙ i.here)) ∙ i.is
 
--- An effect that a slot has by the registers of the start is that of its instruction.
+-- So an effect that a slot has by the registers of the start is that of its instruction.
 pub effect_from_start : (p : Program) (g : Gathered) (slot : Slot) (e : SlotEffect) → ComesNext p g slot → (is_executed slot g ≡ true → is_indirect slot.action ≡ false)
     → outcome_of_effect g.base g.memory e ≡ done (is_executed slot g) (site p g.place.bundle) slot.action g.base g.memory g.unat → MayMake g.base g.memory e.change
     → (insn : Insn) → insn_at p.bundles g.place ≡ Some insn → IsEffectOf p g insn e g.base.pfs
@@ -108,7 +108,7 @@ effect_from_start p g slot e next direct value may insn at =
       may = may;
     }
 
--- Any effect that a slot other than a branch has by the registers of the start is that of its instruction.
+-- And so is any that what is no branch has by them.
 pub effect_of_plain : (p : Program) (g : Gathered) (slot : Slot) (e : SlotEffect) → ComesNext p g slot → is_branch slot.action ≡ false
     → outcome_of_effect g.base g.memory e ≡ guarded (site p g.place.bundle) slot.qp slot.action g.base g.memory g.unat → MayMake g.base g.memory e.change
     → (insn : Insn) → insn_at p.bundles g.place ≡ Some insn → IsEffectOf p g insn e g.base.pfs

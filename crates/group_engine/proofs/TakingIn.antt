@@ -58,7 +58,7 @@ frame_taken g o place none = rw none refl
 outcome_seen : (r : Registers) (s : BranchInputs) (m : Memory) (e : SlotEffect) → outcome_of_effect (record r { pfs = s.pfs }) m e ≡ outcome_of_effect (seen_by r s) m e
 outcome_seen r s m e = rw (writes_seen r s e.change, memory_seen r s e.change m, spills_seen r s e.change, memory_pfs r s.pfs e.change m, spills_pfs r s.pfs e.change) refl
 
--- A change that may be made by what a slot sees may be made by the registers of the start.
+-- So may be made.
 may_seen : (r : Registers) (s : BranchInputs) (m : Memory) (c : Change) → MayMake (seen_by r s) m c → MayMake (record r { pfs = s.pfs }) m c
 may_seen r s m (Stored r3 size spills update cell) h = rw (look_with_pfs r s.pfs r3, ← seen_look r s r3) h
 may_seen r s m (Exchanged r1 r3 size old value) h = rw (look_with_pfs r s.pfs r3, ← seen_look r s r3) h

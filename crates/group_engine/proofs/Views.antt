@@ -20,10 +20,10 @@ unfolding look
 look_seen r s zero = refl
 look_seen r s (suc n) = sym (cell_seen r s (spot r.frame (suc n)))
 
--- What is seen of p0 is 1.
+-- p0 is 1,
 pub holds_zero_seen : (r : Registers) (s : BranchInputs) (p : ℕ) → p ≡ 0 → holds (seen_by r s) p ≡ true
 holds_zero_seen r s p e = rw e (holds_zero (seen_by r s))
 
--- What is seen of each other predicate is what stands at its place among those seen.
+-- and each other predicate is that of the others at its place
 pub holds_seen : (r : Registers) (s : BranchInputs) (p : ℕ) → p ≢ 0 → holds (seen_by r s) p ≡ get_or s.predicates (predicate_index r.frame p) false
 holds_seen r s p h = holds_at_place (seen_by r s) p h

@@ -18,16 +18,16 @@ pub record Engine : Type 0 where
   pub groups : ℕ
   pub range : Rse
 
--- At the start of a program.
+-- at the start of a program
 abbrev pub begun : Program → Engine
 begun p = record { program = p; state = zero_state p; end = None; groups = 0; range = zero_range }
 
--- The end of a run, but that a run whose groups are all done goes on.
+-- the end of a run, but that a run whose groups are all done goes on
 abbrev pub lasting : End → Option End
 lasting (Limit place) = None
 lasting end = Some end
 
--- What a run of groups leaves.
+-- what a run of groups leaves
 abbrev pub after_run : Run → Engine → Engine
 after_run run e = record e {
   state = run.state;
@@ -36,21 +36,21 @@ after_run run e = record e {
   range = range_of e.range run.frames;
 }
 
--- What a group leaves.
+-- what a group leaves
 abbrev pub after_group : Group → Engine → Engine
 after_group g e = record e { state = g.state; end = g.end; groups = e.groups + 1; range = range_of e.range g.frames }
 
--- The engine as it is where it has come to an end, and else as it is further on.
+-- as it is after an end, and else what is further
 abbrev pub unless_ended : Option End → Engine → Engine → Engine
 unless_ended (Some end) e further = e
 unless_ended None e further = further
 
--- The engine n groups further, or up to an end, each group in the order with this number.
+-- so many groups further, each in the order with this number, or up to an end
 abbrev pub groups_further : ℕ → ℕ → Engine → Engine
 groups_further zero number e = e
 groups_further (suc n) number e =
     unless_ended e.end e (groups_further n number (after_group (numbered_group number e.program e.state) e))
 
--- How a run that stands so ends.
+-- how a run that stands so ends
 abbrev pub end_of : Engine → End
 end_of e = end_or e.end e.state.place

@@ -26,16 +26,16 @@ use Rattle.group_engine.specs.declared.limits.TheConstants.{SLOT_WRITE_LIMIT, WR
 use Rattle.group_engine.specs.Kept.{branch_inputs_of}
 use Rattle.group_engine.specs.Views.{seen_by}
 
--- The change of the frame of an `alloc` in first place, where this is one.
+-- the change of the frame of an `alloc` in first place, where this is one
 abbrev pub changes_of : Bool → FrameShape → List (ℕ × ℕ)
 changes_of false f = []
 changes_of true f = (f.base, f.base + f.sof) ∷ []
 
--- The memory, as the meaning has it.
+-- the memory, as the meaning has it
 abbrev pub memory_of : InOrder → Memory
 memory_of t = record { bytes = t.data; alat = t.alat }
 
--- The group so far.
+-- the group so far
 abbrev pub gathered_of : Gathering → Gathered
 gathered_of g = record {
   base = g.registers;
@@ -46,11 +46,11 @@ gathered_of g = record {
   place = g.place;
 }
 
--- The state between two groups.
+-- the state between two groups
 abbrev pub state_of : Gathering → State
 state_of g = record { registers = g.registers; memory = memory_of g.in_order; place = g.place }
 
--- What is gathered, with the write of a frame that comes first made before all other writes.
+-- with the write of a frame that comes first made before all other writes
 abbrev pub with_frame_ahead : Gathered → Gathered
 with_frame_ahead g = record g { base = apply (frame_ahead g.writes) g.base; frames = frame_changes (frame_ahead g.writes); writes = after_frame g.writes }
 
@@ -66,16 +66,16 @@ pub record ComesNext (p : Program) (g : Gathered) (slot : Slot) : Type 0 where
   pub bundle : g.place.bundle < 2 ^ 31
   pub ranges : HasActionRanges slot.action
 
--- Whether the qualifying predicate of a slot is 1, as the slot sees it: a branch as earlier slots wrote it, and all others as
--- it stood at the group's start.
+-- whether the qualifying predicate of a slot is 1, as the slot sees it: a branch as earlier slots wrote it, and all others as
+-- it stood at the group's start
 abbrev pub is_executed : Slot → Gathered → Bool
 is_executed slot g = holds (seen_by g.base (if is_branch slot.action then branch_inputs_of (now_of g) else branch_inputs_of g.base)) slot.qp
 
--- What an action does that is executed or not.
+-- what an action does that is executed or not
 abbrev pub done : Bool → Site → Action → Registers → Memory → ℕ → Outcome
 done executed s f r m unat = if executed then act s f r m unat else skip s f r m
 
--- The rest of a group, of at most `most` slots. `begins` says whether the group begins there.
+-- the rest of a group, of at most so many slots, where the group begins there or not
 unfoldable pub rest_of : ℕ → Program → Bool → Gathered → GatheredGroup
 rest_of most p begins g = gathered_within most p begins g
 

@@ -19,32 +19,32 @@ IsMakeable (SetEc v) = v < 64
 IsMakeable (SetFrame cause f) = IsFrame f × (f.base + f.sof ≤ STACK_LIMIT)
 IsMakeable w = ⊤
 
--- The registers that steer branches, of all registers.
+-- the registers that steer branches, of all registers
 abbrev pub branch_inputs_of : Registers → BranchInputs
 branch_inputs_of r = record { predicates = r.predicates; branches = r.branches; pfs = r.pfs }
 
--- After a write.
+-- after a write
 abbrev pub branch_inputs_with : Write → BranchInputs → BranchInputs
 branch_inputs_with (SetPredicate n b) s = record s { predicates = set s.predicates n b }
 branch_inputs_with (SetBranch n v) s = record s { branches = set s.branches n v }
 branch_inputs_with (SetPfs v) s = record s { pfs = v }
 branch_inputs_with w s = s
 
--- After writes, in order.
+-- after writes, in order
 abbrev pub branch_inputs_after : List Write → BranchInputs → BranchInputs
 branch_inputs_after [] s = s
 branch_inputs_after (w ∷ ws) s = branch_inputs_after ws (branch_inputs_with w s)
 
--- The writes, in program order, and what they leave of the registers that steer branches.
+-- the writes, in program order, and what they leave of the registers that steer branches
 pub record Kept : Type 0 where
   pub writes : List Write
   pub latest : BranchInputs
 
--- What is kept, with more writes.
+-- with more writes
 abbrev pub keeping : List Write → Kept → Kept
 keeping ws k = record { writes = k.writes ++ ws; latest = branch_inputs_after ws k.latest }
 
--- The write of a frame, where there is one.
+-- the write of a frame, where there is one
 abbrev pub frame_writes : Option (FrameCause × FrameShape) → List Write
 frame_writes None = []
 frame_writes (Some f) = SetFrame f.0 f.1 ∷ []

@@ -7,7 +7,7 @@ use Rattle.group_engine.specs.Kept.{IsMakeable, Kept}
 abbrev pub kept_of : Inside → Kept
 kept_of k = record { writes = k.writes.items; latest = k.latest }
 
--- Each of the kept writes may be made, and there is room for those of the largest group.
+-- Each may be made, and there is room for those of the largest group.
 pub record AreMakeable (k : Inside) : Type 0 where
   pub makeable : All IsMakeable k.writes.items
   pub room : WRITE_LIMIT ≤ vec_capacity k.writes

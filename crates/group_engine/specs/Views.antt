@@ -6,11 +6,11 @@ use Rattle.ia_meaning.specs.declared.action.CallTarget.TheVariants.{Indirect}
 use Rattle.ia_meaning.specs.State.{Registers}
 use Rattle.group_engine.specs.declared.branch_inputs.BranchInputs.{BranchInputs}
 
--- Registers, with others that steer branches.
+-- registers, with others that steer branches
 abbrev pub seen_by : Registers → BranchInputs → Registers
 seen_by r s = record r { predicates = s.predicates; branches = s.branches; pfs = s.pfs }
 
--- The branch register that holds the target of an indirect branch, a call or a return; none of another action.
+-- the branch register that holds the target of an indirect branch, a call or a return; none of another action
 abbrev pub target_register : Action → Option ℕ
 target_register (JumpIndirect b2) = Some b2
 target_register (Call b1 (Indirect b2)) = Some b2

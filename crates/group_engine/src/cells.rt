@@ -5,7 +5,7 @@ ghost use Rattle.ia_meaning.specs.Writes.{resized};
 
 use ia_meaning::Cell;
 
-/// Cuts the list at `count` cells, or fills it up to that length with zeros. It needs no memory.
+/// Cuts the cells to `count`, or fills them up to so many with zeros. It needs no memory.
 #[tactic(auto, using(crate::proofs::Resized::resizing))]
 pub(crate) fn resize(cells: &mut Vec<Cell>, count: u32)
     requires { count ≤ vec_capacity cells.old }

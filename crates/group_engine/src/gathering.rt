@@ -297,9 +297,9 @@ impl Gathering {
         view.holds(slot.qp)
     }
 
-    /// Goes on as an effect says that a slot has by the registers of the group's start, and tells whether the group is over. All
-    /// slots but executed indirect branches have such an effect: of what earlier slots wrote they see nothing but their
-    /// qualifying predicate.
+    /// Goes on as an effect says that a slot has by the registers of the group's start. All but indirect branches that are
+    /// executed have that: of what earlier slots wrote they see nothing but their qualifying predicate. Tells whether the
+    /// group is over.
     #[inline(always)]
     fn go_on_from_start(
         &mut self,

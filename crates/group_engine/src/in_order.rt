@@ -27,8 +27,8 @@ pub(crate) struct InOrder {
 }
 
 impl InOrder {
-    /// What keeps program order at the start of a program with these data: at most 1,048,576 bytes, a multiple of 8. No call
-    /// after this one takes memory.
+    /// That of a program with these data: at most 1,048,576 bytes, a multiple of 8. No call after this one
+    /// takes memory.
     ///
     /// # Errors
     ///

@@ -37,7 +37,7 @@ impl Model for KeptWrites {
 }
 
 impl KeptWrites {
-    /// No writes so far, from these registers. No call after this one takes memory.
+    /// None so far, from these registers. No call after this one takes memory.
     ///
     /// # Errors
     ///

@@ -103,7 +103,7 @@ impl<'a> GroupMachine<'a> {
         self.groups += 1;
     }
 
-    /// Runs at most `groups` groups, fewer where the run comes to an end.
+    /// Runs so many groups, or up to an end.
     fn run_groups(&mut self, groups: u64, number: u64)
         requires room { self.old.groups + groups < 2 ^ 64 }
         ensures { self.new ≡ groups_further groups number self.old }
@@ -122,17 +122,18 @@ impl<'a> GroupMachine<'a> {
         end_or(self.gathering.end, self.gathering.place)
     }
 
-    /// Runs at most `groups` groups more, at least one, and fewer where the run comes to an end. The writes of each group are
-    /// made in the order with `number`, which may be any. The groups of all calls together are fewer than 2^64. Of a group's m
-    /// writes, counted from 0 in program order, number `number % m` is made first; of the m - 1 that are left, counted from 0
-    /// again, the one at `(number / m) % (m - 1)`, and so on. 0 is program order.
+    /// Runs so many groups more, at least one, or up to an end, each in the order with this number, which may be
+    /// any; the groups of all calls are fewer than 2^64. Of a group's m writes, counted from 0 in program order,
+    /// number `number % m` is made first; of the m - 1 that are left, counted from 0 again, the one at
+    /// `(number / m) % (m - 1)`, and so on. 0 is program order.
     ///
-    /// A slot reads the registers of its group's start, but for these: after an `alloc` in first place each sees the new frame; a
-    /// branch sees its qualifying predicate as earlier slots wrote it, an indirect one p1 to p15 and the branch register of its
-    /// target too, and a return the previous function state (volume 1, chapter 3, instruction dependencies).
+    /// A slot reads the registers of its group's start, but for these: after an `alloc` in first place each sees the
+    /// new frame; a branch sees its qualifying predicate as earlier slots wrote it, an indirect one p1 to p15 and
+    /// the branch register of its target too, and a return the previous function state (volume 1, chapter 3,
+    /// instruction dependencies).
     ///
-    /// The end is `Limit` exactly where all groups ran without one; a later call goes on there. After another end nothing changes
-    /// any more, and it is returned again.
+    /// The end is `Limit` exactly where all groups ran without one; a later call goes on there. After another
+    /// end nothing changes any more, and it is answered again.
     #[tactic(auto, using(crate::proofs::Runs::further_is_run, crate::proofs::Runs::further_ends, crate::proofs::Runs::further_ended))]
     pub fn run(&mut self, groups: u64, number: u64) -> End
         requires some { 1 ≤ groups }

@@ -24,7 +24,7 @@ use slot_effects::{StateView, predicate_word};
 pub(crate) struct View<'a> {
     /// The registers of the group's start.
     pub registers: &'a GroupRegisters,
-    /// The registers that steer branches, as the slot sees them.
+    /// Those that steer branches, as the slot sees them.
     pub branch_inputs: &'a BranchInputs,
     /// What goes from slot to slot.
     pub in_order: &'a InOrder,
@@ -175,9 +175,10 @@ fn see_pfs(seen: &mut BranchInputs, latest: &BranchInputs, action: &Action)
     }
 }
 
-/// What a branch of this action and qualifying predicate sees of the registers that steer it. They are those of the group's
-/// start, except for what the branch sees as earlier slots left it (`latest`): its qualifying predicate; of an indirect branch p1
-/// to p15 and the branch register of its target; and of a return the previous function state.
+/// What a branch of this action and qualifying predicate sees of the registers that steer it, where its group began
+/// with these registers and earlier slots left `latest`: its qualifying predicate as in `latest`, an indirect branch
+/// p1 to p15 and the branch register of its target too, and a return the previous function state. All others stand
+/// as at the start.
 pub(crate) fn sight(
     registers: &GroupRegisters,
     latest: &BranchInputs,

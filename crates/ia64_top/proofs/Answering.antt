@@ -203,8 +203,7 @@ ran_nothing text groups input bytes Faulted o none = absurd (none o.0 o.1 (o.2).
 ran_nothing text groups input bytes Refused o none = tt
 ran_nothing text groups input bytes status o none = absurd o
 
--- A list that stays as it was under every command but `watch`, and where nothing was run, stays so where no accepted program was
--- read.
+-- A list that stays as it was under every command but `watch`, and where nothing was run, stays so where no accepted program was read.
 pub not_run_within : {L : Type 0} (command : Command) (left : Option (List ℕ)) (ws : List WatchState) (old now : L) (input bytes : List ℕ) (status : Status) → IfSome left (IsReadOf command input) → IsCommandOutput command ws input bytes status
     → (¬ IsWatch (Some command) → now ≡ old) → (RanNothing status → now ≡ old) → IfSome left (λ l. IsNotRun l → now ≡ old)
 not_run_within command None ws old now input bytes status whole o other not_run = tt

@@ -99,7 +99,7 @@ run_given law zero parallel groups number p bytes status o free =
 run_command : (groups : ℕ) → 1 ≤ groups → groups ≤ GROUP_LIMIT → command_of (run_words groups) ≡ Some (Run groups)
 run_command groups some few = rw (number_of_numeral 1 GROUP_LIMIT (decimal groups) groups (omega arith) (some, few, refl)) refl
 
--- The run in the order with a number gives what `run` gives.
+-- So it is what `run` gives.
 abbrev pub IsSameAsRun : List (List ℕ) → List WatchState → Option (List ℕ) → Option (List ℕ) → Status → List ℕ → Type 0
 IsSameAsRun words ws old new status input =
     TellsOfGroups words (λ groups number p. HasNoViolation p → GivesOutput (run_words groups) ws input old new status) input

@@ -63,7 +63,7 @@ pub record ReadsOne (r : InputReading) : Type 0 where
 abbrev TellsOne : (Program → List ℕ → Status → Type 0) → Type 0
 TellsOne Tells = (p : Program) (mine bytes : List ℕ) (status other : Status) → Tells p mine status → Tells p bytes other → (bytes ≡ mine) × (other ≡ status)
 
--- At most one answer is told of an input that reads as at most one program.
+-- And so one is told of an input.
 one_told : (r : InputReading) (Tells : Program → List ℕ → Status → Type 0) → TellsOne Tells → ReadsOne r
     → (input mine bytes : List ℕ) (status other : Status) → IsTold r Tells input mine status → IsTold r Tells input bytes other → (bytes ≡ mine) × (other ≡ status)
 one_told r Tells single one input mine bytes status other (inl m) (inl o) =
@@ -90,7 +90,7 @@ one_made r Makes single one input mine bytes status other m o =
     one_told r (IsMade Makes) (λ p mine bytes status other m o. (single p mine bytes m.0 o.0, o.1 ∙ sym m.1)) one input mine bytes status other
     (told_of_made r Makes input mine status m) (told_of_made r Makes input bytes other o)
 
--- A program has one image, one canonical text and one listing.
+-- The image of a program is one, and so are its canonical text and its listing.
 one_image : OneImage → MakesOne Written
 one_image one p mine bytes m o = one (written_version p) p bytes mine o m
 
@@ -114,7 +114,7 @@ one_listing_from one n (b ∷ bs) mine text (front, rest, is, head, tail) (front
 one_listing : OneSpelling → MakesOne IsListing
 one_listing one p mine text m o = one_listing_from one 0 p.bundles mine text m o
 
--- A program has one verdict, and an accepted one has one run.
+-- So is the verdict on a program, and the run of an accepted one.
 one_judgement : OneVerdict → TellsOne IsJudgement
 one_judgement one p mine bytes status other m o =
     let same = one p o.verdict m.verdict o.exact m.exact in
@@ -126,11 +126,11 @@ one_run one text groups p mine bytes status other (inl m) (inr o) = absurd ((vio
 one_run one text groups p mine bytes status other (inr m) (inl o) = absurd ((violated_of_judgement p mine status m.0).0 m.1 o.free)
 one_run one text groups p mine bytes status other (inr m) (inr o) = one_judgement one p mine bytes status other m.0 o.0
 
--- A program has one run in the order with a number.
+-- So is the run of a program in the order with a number.
 one_numbered_run : (groups number : ℕ) → TellsOne (IsNumberedRunAnswer groups number)
 one_numbered_run groups number p mine bytes status other m o = (o.printed ∙ sym m.printed, o.ends ∙ sym m.ends)
 
--- `trial` writes one output for its two numbers.
+-- And so is what `trial` writes.
 one_trial : OneVerdict → (seed bundles : ℕ) (mine bytes : List ℕ) (status other : Status) → IsTrialOutput seed bundles mine status → IsTrialOutput seed bundles bytes other → (bytes ≡ mine) × (other ≡ status)
 one_trial one seed bundles mine bytes Done other m o = after_done other o
   where

@@ -40,7 +40,7 @@ either_refuses_none spelled read input p bytes (inl g) (inr r) = absurd (r.0 g.0
 either_refuses_none spelled read input p bytes (inr g) (inl r) = absurd (g.0 r.0)
 either_refuses_none spelled read input p bytes (inr g) (inr r) = text_refuses_none read input p bytes g.1 r.1
 
--- An input is read as one program.
+-- It is read as one program.
 abbrev pub GivesOne : InputReading → Type 0
 GivesOne r = (input : List ℕ) (p q : Program) → r.Gives input p → r.Gives input q → p ≡ q
 

@@ -149,7 +149,7 @@ pub events_of_start : EventsAreOfRun → (groups : ℕ) (p : Program) (m : Execu
     → events_further groups m.program m.progress ≡ (run_of p groups).events
 events_of_start law groups p m program is = ap (λ (x : Execution). events_further groups x.program x.progress) is ∙ law groups p (zero_state p) program (zero_is_place p program)
 
--- The watchers that stay are the same where the events have another name.
+-- The same, where the events have another name.
 pub stay_over : (events other : List GroupEvent) (old now : List WatchState) → events ≡ other → now ≡ staying events old → now ≡ staying other old
 stay_over events other old now same is = subst (λ es. now ≡ staying es old) same is
 

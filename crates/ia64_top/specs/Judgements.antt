@@ -9,12 +9,12 @@ use Rattle.ia64_top.specs.declared.status.Status.{Status}
 use Rattle.ia64_top.specs.declared.status.Status.TheVariants.{Done, Violated}
 use Rattle.ia64_top.specs.Texts.{verdict_text}
 
--- A check is done where the program is accepted.
+-- a check is done where the program is accepted
 abbrev pub verdict_status : Verdict → Status
 verdict_status (Accepted p) = Done
 verdict_status (Violations report) = Violated
 
--- The bytes and the status of the verdict on a program.
+-- the bytes and the status of the verdict on a program
 pub record IsJudgement (p : Program) (bytes : List ℕ) (status : Status) : Type 0 where
   pub program : IsProgram p
   pub verdict : Verdict
@@ -29,6 +29,6 @@ pub record PrintsClashes (p : Program) (bytes : List ℕ) : Type 0 where
   pub exact : IsReport p report
   pub printed : bytes ≡ verdict_text (Violations report)
 
--- The bytes and the status are those of a verdict with violations.
+-- those of a verdict with violations
 abbrev pub IsJudgedViolated : Program → List ℕ → Status → Type 0
 IsJudgedViolated p bytes status = IsJudgement p bytes status × (status ≡ Violated)

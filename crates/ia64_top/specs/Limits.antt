@@ -9,7 +9,7 @@ use Rattle.bundling.specs.declared.chunk.TheConstants.{QUIET_LIMIT}
 use Rattle.asm_lexemes.specs.declared.limits.TheConstants.{LINE_LIMIT, NAME_LIMIT, NUMBER_LIMIT, NUMBER_TOKEN_LIMIT}
 use Rattle.ia64_top.specs.declared.limits.TheConstants.{INPUT_LIMIT, GROUP_LIMIT, TRACE_LIMIT, TRIAL_LIMIT}
 
--- Of programs, their images and their packing, of states, of what is shown, of lines of text, and of calls.
+-- of programs, their images and their packing, of states, of what is shown, of lines of text, and of calls
 pub record AreLimits : Type 0 where
   pub bundles : BUNDLE_LIMIT ≡ 32768
   pub bundles_in_version_1 : VERSION_1_BUNDLE_LIMIT ≡ 4096

@@ -8,7 +8,7 @@ number_between least most word =
     let number = digits_value 10 word
     in if nat_le least number && nat_le number most && bytes_eq word (decimal number) then Some number else None
 
--- The word begins with a digit, and with 0 only where it is `0` alone.
+-- it is `0`, or begins with another digit
 abbrev pub BeginsAsNumeral : List ℕ → Type 0
 BeginsAsNumeral word =
     (0 < length word) × (48 ≤ get_or word 0 0) × (get_or word 0 0 ≤ 57) × (get_or word 0 0 ≡ 48 → length word ≡ 1)

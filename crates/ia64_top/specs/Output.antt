@@ -103,7 +103,7 @@ IsProgramOf command input program = as_either.Gives input program
 abbrev pub IsUnreadable : Command → List ℕ → Type 0
 IsUnreadable command input = (program : Program) → ¬ IsProgramOf command input program
 
--- A status that prints nothing.
+-- a status that prints nothing
 abbrev pub IsSilent : Status → List ℕ → Status → Type 0
 IsSilent status bytes answer = (bytes ≡ []) × (answer ≡ status)
 
@@ -114,9 +114,8 @@ printing_of (command.Watch groups) watchers = watch_text watchers
 printing_of (command.Trace first count) watchers = trace_text first count
 printing_of command watchers = state_after
 
--- `build` and `wrap` make the image of a program, `stops` the text of the program into which a loose text is packed, `show` its
--- canonical text, `list` its listing, and `lift` its image of version 2. `check`, `run`, `watch`, `trace` and `groups` take an
--- image or a text, and `trial` takes no input.
+-- `build` and `wrap` make the image of a program, `stops` the text of the program into which a loose text is packed, `show`
+-- its canonical text, `list` its listing, and `lift` its image of version 2. `check`, `run`, `watch`, `trace` and `groups` take an image or a text, and `trial` takes no input.
 abbrev pub IsCommandOutput : Command → List WatchState → List ℕ → List ℕ → Status → Type 0
 IsCommandOutput command.Build watchers input bytes status =
     IsMadeOutput as_text Written input bytes status

@@ -17,39 +17,39 @@ pub record InputReading : Type 1 where
   pub Gives : List ℕ → Program → Type 0
   pub Refuses : List ℕ → List ℕ → Type 0
 
--- The bytes and the status of an input that is refused.
+-- the bytes and the status of an input that is refused
 abbrev pub IsRefusal : InputReading → List ℕ → List ℕ → Status → Type 0
 IsRefusal reading input bytes status = reading.Refuses input bytes × (status ≡ Refused)
 
--- An image.
+-- an image
 abbrev pub as_image : InputReading
 as_image = record {
   Gives = λ input p. Spells p input;
   Refuses = λ input bytes. (fault : ImageFault) × HasImageFault input fault × (bytes ≡ refusal_text fault);
 }
 
--- Bare bundles.
+-- bare bundles
 abbrev pub as_bundles : InputReading
 as_bundles = record {
   Gives = λ input p. RawSpells p input;
   Refuses = λ input bytes. (fault : ImageFault) × HasRawFault input fault × (bytes ≡ refusal_text fault);
 }
 
--- A text.
+-- a text
 abbrev pub as_text : InputReading
 as_text = record {
   Gives = λ input p. ReadsText input p;
   Refuses = λ input bytes. (e : TextError) × HasTextFault input e × (bytes ≡ text_refusal_text e);
 }
 
--- A loose text, of whose instructions a program is packed.
+-- a loose text, of whose instructions a program is packed
 abbrev pub as_loose : InputReading
 as_loose = record {
   Gives = λ input p. (k : Packed) × IsPlaced input k × (k.program ≡ p);
   Refuses = λ input bytes. (e : TextError) × HasPlacingFault input e × (bytes ≡ text_refusal_text e);
 }
 
--- An image where the input begins as one, and else a text.
+-- an image where the input begins as one, and else a text
 abbrev pub as_either : InputReading
 as_either = record {
   Gives = λ input p. (BeginsAsImage input × as_image.Gives input p) ⊎ ((¬ BeginsAsImage input) × as_text.Gives input p);

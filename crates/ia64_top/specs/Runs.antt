@@ -16,7 +16,7 @@ use Rattle.watch_seam.specs.Watching.{numbered, reports}
 use Rattle.ia64_top.specs.declared.status.Status.{Status}
 use Rattle.ia64_top.specs.declared.status.Status.TheVariants.{Done, Limit, Faulted}
 
--- The run of a program from the zero state, of at most n groups.
+-- the run of a program from the zero state, of at most n groups
 abbrev pub run_of : Program → ℕ → Run
 run_of p = λ groups. seq_run p groups (zero_state p)
 
@@ -25,7 +25,7 @@ run_of p = λ groups. seq_run p groups (zero_state p)
 abbrev pub numbered_run_of : Program → ℕ → ℕ → Run
 numbered_run_of p groups number = numbered_run p groups number (zero_state p)
 
--- A `break` ends a run that is done.
+-- a `break` ends a run that is done
 abbrev pub end_status : End → Status
 end_status (end.Break imm place) = Done
 end_status (end.Limit place) = Limit
@@ -54,8 +54,8 @@ traced_groups runs groups (suc more) =
     flat_map (λ event. line (event_text event) ++ run_text (runs (suc groups))) (further_events runs groups)
     ++ traced_groups runs (suc groups) more
 
--- `trace` prints the state after its first number of groups, and then the groups behind them up to its second number, or fewer
--- where the run ends.
+-- `trace` prints the state after its first number of groups, and then the groups behind them up to its second number, or fewer where the
+-- run ends.
 abbrev pub trace_text : (first count : ℕ) → Printing
 trace_text first count runs groups = run_text (runs first) ++ traced_groups runs first count
 

@@ -6,7 +6,7 @@ use Rattle.ia64_top.specs.declared.status.Status.{Status}
 use Rattle.ia64_top.specs.declared.status.Status.TheVariants.{Done, Violated, Words, Refused, TooLong}
 use Rattle.ia64_top.specs.declared.status.Status.TheVariants.{ReadFault, WriteFault, NoMemory, Limit, Faulted}
 
--- The exit status.
+-- the exit status
 abbrev pub status_number : Status → ℕ
 status_number Done = 0
 status_number Violated = 1

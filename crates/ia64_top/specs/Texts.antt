@@ -41,7 +41,7 @@ resource_text Lc = codes "lc"
 resource_text Ec = codes "ec"
 resource_text Cfm = codes "cfm"
 
--- The rule, the resource, and the first and the second place, parted by spaces.
+-- the rule, the resource, and the first and the second place, parted by spaces
 abbrev pub violation_text : Violation → List ℕ
 violation_text v =
     rule_text v.rule ++ codes " " ++ resource_text v.resource ++ codes " " ++ place_text v.first ++ codes " "
@@ -53,25 +53,25 @@ verdict_text (Accepted p) = line (codes "accepted")
 verdict_text (Violations report) =
     line (codes "violations " ++ decimal report.total) ++ flat_map (λ v. line (violation_text v)) report.shown
 
--- Why a stop stands where it does: of a pair the violation that it prevents.
+-- why a stop stands where it does: of a pair the violation that it prevents
 abbrev pub why_text : Why → List ℕ
 why_text Written = codes "written"
 why_text Long = codes "long"
 why_text (Pair v) = violation_text v
 
--- A stop as a comment: the place that it follows, and why.
+-- a stop as a comment: the place that it follows, and why
 abbrev pub stop_text : StopWhy → List ℕ
 stop_text s = codes "// " ++ place_text s.after ++ codes " " ++ why_text s.why
 
--- The canonical text of the program, and a line for each stop.
+-- the canonical text of the program, and a line for each stop
 abbrev pub packed_text : Packed → List ℕ
 packed_text k = canonical_text k.program ++ flat_map (λ s. line (stop_text s)) k.stops
 
--- The bundle and the slot of a place.
+-- the bundle and the slot of a place
 abbrev pub slot_text : Place → List ℕ
 slot_text place = codes "image: bundle " ++ decimal place.bundle ++ codes " slot " ++ decimal place.slot
 
--- What is printed of an image's fault; of want of memory nothing is.
+-- what is printed of an image's fault; of want of memory nothing is
 abbrev pub fault_text : ImageFault → List ℕ
 fault_text Short = codes "image: short"
 fault_text Magic = codes "image: magic"
@@ -88,7 +88,7 @@ fault_text Memory = []
 abbrev pub refusal_text : ImageFault → List ℕ
 refusal_text fault = line (fault_text fault)
 
--- What is printed of a text's fault; of want of memory nothing is.
+-- what is printed of a text's fault; of want of memory nothing is
 abbrev pub text_fault_text : TextError → List ℕ
 text_fault_text (error.Fault n reason) = codes "line " ++ decimal n ++ codes ": " ++ reason_text reason
 text_fault_text error.Memory = []

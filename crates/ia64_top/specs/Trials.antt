@@ -15,12 +15,12 @@ use Rattle.ia64_top.specs.declared.status.Status.TheVariants.{Done, Violated}
 use Rattle.ia64_top.specs.Judgements.{IsJudgement}
 use Rattle.ia64_top.specs.Runs.{run_of}
 
--- The value in a register, where there is one.
+-- the value in a register, where there is one
 abbrev pub value_of : Option Cell → ℕ
 value_of None = 0
 value_of (Some cell) = cell.value
 
--- The sum of the values in r8 to r15, modulo 2 to the power of 64.
+-- the sum of the values in r8 to r15, modulo 2 to the power of 64
 abbrev pub register_sum : Registers → ℕ
 register_sum r = sum_by value_of (map (look r) (range_with_len 8 8)) % 2 ^ 64
 

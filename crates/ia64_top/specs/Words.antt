@@ -5,8 +5,7 @@ use Rattle.ia64_top.specs.declared.words.Command.{Command}
 use Rattle.ia64_top.specs.declared.words.Command.TheVariants.{Build, Stops, Show, List as Listing, Wrap, Lift, Check, Run, Watch, Trace, Groups, Trial}
 use Rattle.ia64_top.specs.Numbers.{number_between}
 
--- A run has at least one group, and at most the limit; the same holds of the groups that a trace shows, and of the bundles of a
--- trial.
+-- A run has at least one group, and at most the limit; the same holds of the groups that a trace shows, and of the bundles of a trial.
 abbrev pub HasNumbersInRange : Command → Type 0
 HasNumbersInRange (Run groups) = (1 ≤ groups) × (groups ≤ GROUP_LIMIT)
 HasNumbersInRange (Watch groups) = (1 ≤ groups) × (groups ≤ GROUP_LIMIT)
@@ -23,7 +22,7 @@ Judges (Watch groups) = ⊤
 Judges (Trace first count) = ⊤
 Judges command = ⊥
 
--- How many groups `run`, `watch` and `trace` run at most.
+-- how many groups `run`, `watch` and `trace` run at most
 abbrev pub groups_of : Command → Option ℕ
 groups_of (Run groups) = Some groups
 groups_of (Watch groups) = Some groups
@@ -40,17 +39,17 @@ abbrev pub IsTrial : Option Command → Type 0
 IsTrial (Some (Trial seed bundles)) = ⊤
 IsTrial command = ⊥
 
--- The trace of a number of groups behind another number of them, where both words are numbers.
+-- the trace of a number of groups behind another number of them, where both words are numbers
 abbrev pub trace_command : Option ℕ → Option ℕ → Option Command
 trace_command (Some first) (Some count) = Some (Trace first count)
 trace_command first count = None
 
--- A number of groups at once, in the order with a number, where both words are numbers.
+-- a number of groups at once, in the order with a number, where both words are numbers
 abbrev pub groups_command : Option ℕ → Option ℕ → Option Command
 groups_command (Some groups) (Some number) = Some (Groups groups number)
 groups_command groups number = None
 
--- A trial of a seed and a number of bundles, where both words are numbers.
+-- a trial of a seed and a number of bundles, where both words are numbers
 abbrev pub trial_command : Option ℕ → Option ℕ → Option Command
 trial_command (Some seed) (Some bundles) = Some (Trial seed bundles)
 trial_command seed bundles = None
@@ -79,6 +78,6 @@ command_of (word ∷ first ∷ second ∷ []) =
     then trial_command (number_between 0 (2 ^ 64 - 1) first) (number_between 1 TRIAL_LIMIT second) else None
 command_of words = None
 
--- The words of a run of this number of groups.
+-- the words of a run of this number of groups
 abbrev pub run_words : ℕ → List (List ℕ)
 run_words groups = codes "run" ∷ decimal groups ∷ []

@@ -45,8 +45,7 @@ pub fn law_names()
     addresses();
 }
 
-/// The law that the limits of programs, packing, states and calls are the numbers of `docs/use/formats.md`, "Limits". It does
-/// nothing.
+/// The law that the limits of programs, packing, states and calls are the numbers of `docs/use/formats.md`, "Limits". It does nothing.
 pub fn law_limits()
     ensures { AreLimits }
 {}

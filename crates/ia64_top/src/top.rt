@@ -98,14 +98,14 @@ pub fn ia64<S: Source, K: Sink>(
         command_of words.now ≡ Some Command.Check → IsWithinLimit input → (program : Program) → as_either.Gives input program →
         ((result ≡ Status.Done) ↔ HasNoViolation program)) }
 
-    // What `accepted` promises. Where `check`, `stops` or `trial` is done, or `run`, `watch` or `trace` prints a state, the
-    // program is order independent: from every state at an entry, for every number of groups and every order of the writes in
-    // each group, groups at once leave what slots one by one leave.
+    // What `accepted` promises. Where `check`, `stops` or `trial` is done, or `run`, `watch` or `trace` prints a state, the program is order independent: from every
+    // state at an entry, for every number of groups and every order of the writes in each group, groups at once leave
+    // what slots one by one leave.
     ensures robust { IsAnswer result → IfSome (S.left source.old) (λ input. (command : Command) →
         command_of words.now ≡ Some command → TellsAccepted result command → (program : Program) → IsProgramOf command input program → IsRobust program) }
 
-    // Each state that `run`, `watch` and `trace` print is the one of groups at once from the zero state, whatever the order of
-    // their writes, and so is what the watchers report.
+    // So each state that `run`, `watch` and `trace` print is the one of groups at once from the zero state, whatever the
+    // order of their writes, and so is what the watchers report.
     ensures ordered { IsAnswer result → IfSome (S.left source.old) (λ input. (command : Command) (groups : ℕ) →
         command_of words.now ≡ Some command → groups_of command ≡ Some groups → TellsAccepted result command → (program : Program) → as_either.Gives input program →
         GivesRunOfEveryOrder (printing_of command (map (λ b. state b) watchers.old.items)) program groups (K.given sink.old) (K.given sink.new) result) }
@@ -138,11 +138,11 @@ pub fn ia64<S: Source, K: Sink>(
         command_of words.now ≡ Some (Command.Groups groups number) → IsWithinLimit input → (program : Program) → as_either.Gives input program →
         result ≡ end_status (numbered_run_of program groups number).end) }
 
-    // `trial` is done exactly where its program has no violations, and its status is `Violated` exactly where it has some.
+    // `trial` is done exactly where its program has no violations, and answers with them exactly where it has some.
     ensures tried { IsAnswer result → (seed bundles : ℕ) → command_of words.now ≡ Some (Command.Trial seed bundles) →
         ((result ≡ Status.Done) ↔ HasNoViolation (trial_program seed bundles)) × ((result ≡ Status.Violated) ↔ (¬ HasNoViolation (trial_program seed bundles))) }
 
-    // What `trial` writes, and its status, depend on its two numbers alone, whether the source tells its bytes or not.
+    // What it writes and answers is stated of its two numbers alone, whether the source tells its bytes or not.
     ensures trial_output { IsAnswer result → (seed bundles : ℕ) → command_of words.now ≡ Some (Command.Trial seed bundles) →
         GivesTrial seed bundles (K.given sink.old) (K.given sink.new) result }
     ensures trial_part { result ≡ Status.WriteFault → (seed bundles : ℕ) → command_of words.now ≡ Some (Command.Trial seed bundles) →
@@ -161,7 +161,7 @@ pub fn ia64<S: Source, K: Sink>(
     ensures not_run { RanNothing result → watchers.new ≡ watchers.old }
     ensures not_run_in_part { result ≡ Status.WriteFault → IfSome (S.left source.old) (λ input. IsNotRun input → watchers.new ≡ watchers.old) }
 
-    // The watchers that stay are still to see groups, so the list may be handed in again.
+    // Those that stay are still to see groups, so the list may be handed in again.
     ensures still_room { result ≢ Status.NoMemory → AwaitGroups (map (λ b. state b) watchers.new.items) }
 
     // Where memory ran out in the run, one number tells what all watchers have seen: that many groups, or one more.
@@ -179,7 +179,7 @@ pub fn ia64<S: Source, K: Sink>(
     // Where neither failed there is an answer, unless memory ran out.
     ensures complete { ¬ Rose (S.faults source.old) (S.faults source.new) → ¬ Rose (K.faults sink.old) (K.faults sink.new) → IsAnswer result ⊎ (result ≡ Status.NoMemory) }
 
-    // An input that reads as a program gives what the command makes of it, where neither stream failed and memory didn't run out.
+    // So an input that reads as a program is answered by what the command makes of the program.
     ensures served { ¬ Rose (S.faults source.old) (S.faults source.new) → ¬ Rose (K.faults sink.old) (K.faults sink.new) → IfSome (S.left source.old) (λ input. (command : Command) →
         command_of words.now ≡ Some command → is_too_long command input ≡ false → (program : Program) → IsProgramOf command input program →
         TellsOfProgram result ⊎ (result ≡ Status.NoMemory)) }

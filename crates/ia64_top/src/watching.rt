@@ -15,7 +15,7 @@ use state_text::state_text;
 use std::alloc::{AllocError, Global};
 use watch_seam::{Reports, Watch};
 
-/// Runs at most this number of groups of a machine, and shows each to the watchers. Returns what they report.
+/// Runs at most this number of groups of a machine, and shows each to the watchers. Answers what they report.
 fn watch_groups(
     alloc: Global,
     groups: u64,

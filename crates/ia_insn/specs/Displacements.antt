@@ -3,7 +3,7 @@ use Rattle.std.specs.Prelude.{ℤ, Option, Some, None}
 use Rattle.ia_insn.specs.declared.insn.Op.{Op}
 use Rattle.ia_insn.specs.declared.insn.Op.TheVariants.{ChkS, ChkA, Br, BrCall}
 
--- How many bundles from its own the target of a direct branch or check is.
+-- how many bundles from its own the target of a direct branch or check is
 abbrev pub displacement : Op → Option ℤ
 displacement (ChkS unit r2 disp) = Some disp
 displacement (ChkA clear r1 disp) = Some disp

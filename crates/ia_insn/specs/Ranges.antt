@@ -21,7 +21,7 @@ use Rattle.ia_insn.specs.declared.choices.Rel.TheVariants as rels
 use Rattle.ia_insn.specs.declared.choices.CmpKind.{CmpKind}
 use Rattle.ia_insn.specs.declared.choices.CmpKind.TheVariants as kinds
 
--- An operation on an immediate of 8 bits and a register.
+-- an operation on an immediate of 8 bits and a register
 abbrev pub IsImmediateFn : AluFn → Type 0
 IsImmediateFn alu.Sub = Unit {0}
 IsImmediateFn alu.And = Unit {0}
@@ -30,7 +30,7 @@ IsImmediateFn alu.Or = Unit {0}
 IsImmediateFn alu.Xor = Unit {0}
 IsImmediateFn f = ⊥
 
--- A compare of two registers, or of an immediate and a register.
+-- a compare of two registers, or of an immediate and a register
 abbrev pub IsCompare : CmpKind → Rel → Type 0
 IsCompare kinds.Normal rels.Lt = Unit {0}
 IsCompare kinds.Normal rels.Ltu = Unit {0}
@@ -46,7 +46,7 @@ IsCompare kinds.OrAndcm rels.Eq = Unit {0}
 IsCompare kinds.OrAndcm rels.Ne = Unit {0}
 IsCompare kind rel = ⊥
 
--- The type and the relation of a compare of r0 and a register.
+-- the type and the relation of a compare of r0 and a register
 abbrev pub IsParallel : CmpKind → Type 0
 IsParallel kinds.And = Unit {0}
 IsParallel kinds.Or = Unit {0}
@@ -60,65 +60,65 @@ IsZeroRelation rels.Lt = Unit {0}
 IsZeroRelation rels.Le = Unit {0}
 IsZeroRelation rel = ⊥
 
--- The position and the length of a field of a register, of at most `most` bits.
+-- the position and the length of a field of a register, of at most so many bits
 pub record IsBitField (pos len most : ℕ) : Type 0 where
   pub position : pos ≤ 63
   pub some : 1 ≤ len
   pub within : len ≤ most
 
--- 1, 2, 4 or 8 bytes.
+-- 1, 2, 4 or 8 bytes
 abbrev pub IsAccessSize : ℕ → Type 0
 IsAccessSize size = (size ≡ 1) ⊎ ((size ≡ 2) ⊎ ((size ≡ 4) ⊎ (size ≡ 8)))
 
--- 1, 2 or 4 bytes: a part of a register.
+-- 1, 2 or 4 bytes: a part of a register
 abbrev pub IsPartSize : ℕ → Type 0
 IsPartSize size = (size ≡ 1) ⊎ ((size ≡ 2) ⊎ (size ≡ 4))
 
--- 4 or 8 bytes: what a fetch-and-add adds to.
+-- 4 or 8 bytes: what a fetch-and-add adds to
 abbrev pub IsFetchAddSize : ℕ → Type 0
 IsFetchAddSize size = (size ≡ 4) ⊎ (size ≡ 8)
 
--- An increment of a fetch-and-add: 1, 4, 8, 16, or one of these with a minus sign.
+-- an increment of a fetch-and-add: 1, 4, 8, 16, or one of these with a minus sign
 abbrev pub IsIncrement : ℤ → Type 0
 IsIncrement inc =
     (unsigned_abs inc ≡ 1) ⊎ ((unsigned_abs inc ≡ 4) ⊎ ((unsigned_abs inc ≡ 8) ⊎ (unsigned_abs inc ≡ 16)))
 
--- The size of a load: 8 bytes for a fill, and else that of any access.
+-- a fill is of 8 bytes
 abbrev pub IsLoadSize : LoadKind → ℕ → Type 0
 IsLoadSize loads.Fill size = size ≡ 8
 IsLoadSize kind size = IsAccessSize size
 
--- The size of a store: 8 bytes for a spill, and else that of any access.
+-- and so is a spill
 abbrev pub IsStoreSize : StoreKind → ℕ → Type 0
 IsStoreSize stores.Spill size = size ≡ 8
 IsStoreSize kind size = IsAccessSize size
 
--- An update is none, or of a base other than r0 and than the target, by a register or by -256 to 255.
+-- an update is none, or of a base other than r0 and than the target, by a register or by -256 to 255
 abbrev pub IsLoadUpdate : ℕ → ℕ → Update → Type 0
 IsLoadUpdate r1 r3 updates.None = Unit {0}
 IsLoadUpdate r1 r3 (updates.Reg r2) = (r3 ≢ 0) × (r1 ≢ r3)
 IsLoadUpdate r1 r3 (updates.Imm imm) = (r3 ≢ 0) × (r1 ≢ r3) × FitsSigned 9 imm
 
--- An update is none, or of a base other than r0 by -256 to 255.
+-- an update is none, or of a base other than r0 by -256 to 255
 abbrev pub IsStoreUpdate : ℕ → Update → Type 0
 IsStoreUpdate r3 updates.None = Unit {0}
 IsStoreUpdate r3 (updates.Reg r2) = ⊥
 IsStoreUpdate r3 (updates.Imm imm) = (r3 ≢ 0) × FitsSigned 9 imm
 
--- The number of a break or a nop of this unit.
+-- the number of a break or a nop of this unit
 abbrev pub IsNumberOf : ExecutionUnit → ℕ → Type 0
 IsNumberOf L imm = ⊥
 IsNumberOf X imm = imm < 2 ^ 62
 IsNumberOf unit imm = imm < 2 ^ 21
 
--- The number of a hint of this unit.
+-- the number of a hint of this unit
 abbrev pub IsHintOf : ExecutionUnit → ℕ → Type 0
 IsHintOf M imm = imm < 2 ^ 21
 IsHintOf I imm = imm < 2 ^ 21
 IsHintOf B imm = imm < 2 ^ 21
 IsHintOf unit imm = ⊥
 
--- A speculation check stands in an M or an I slot.
+-- a speculation check stands in an M or an I slot
 abbrev pub IsCheckOf : ExecutionUnit → Type 0
 IsCheckOf M = Unit {0}
 IsCheckOf I = Unit {0}
@@ -180,7 +180,7 @@ HasRanges (ops.Break unit imm) = IsNumberOf unit imm
 HasRanges (ops.Nop unit imm) = IsNumberOf unit imm
 HasRanges (ops.Hint unit imm) = IsHintOf unit imm
 
--- The qualifying predicate of a branch: the counted loop branches, B2, have none.
+-- the qualifying predicate of a branch: the counted loop branches, B2, have none
 abbrev pub IsQualifier : BranchKind → ℕ → Type 0
 IsQualifier Cloop qp = qp ≡ 0
 IsQualifier Cexit qp = qp ≡ 0

@@ -31,7 +31,7 @@ none_passes test bundle (r ∷ rs) none = kept (r.bundle == bundle) (none zero (
 abbrev Passes : (Relation → Bool) → ℕ → List Relation → Type 0
 Passes test bundle rs = (n : ℕ) × (n < length rs) × ((relation_at rs n).bundle ≡ bundle) × (test (relation_at rs n) ≡ true)
 
--- Where a test finds a relation of the bundle, one of the relations passes it.
+-- and the test of whether one does finds it
 passing_found : (test : Relation → Bool) (bundle : ℕ) (rs : List Relation) → list_any test (relations_at rs bundle) ≡ true → Passes test bundle rs
 passing_found test bundle [] found = absurd (cc)
 passing_found test bundle (r ∷ rs) found = of (r.bundle == bundle) (test r) refl refl (passing_found test bundle rs) found

@@ -58,8 +58,7 @@ settled_keeps : (next : Option Place) (m : Memory) (way : Next) (o : Outcome) �
 settled_keeps None m Falls o h = refl
 settled_keeps next m way o h = h
 
--- An instruction leaves the bytes where it accesses none: also where it falls off the program's end, and where its qualifying
--- predicate is 0.
+-- So it is where the slot falls off the program's end too, and of one that accesses memory where its qualifying predicate is 0.
 pub bytes_kept : (s : Site) (insn : Insn) (next : Option Place) (r : Registers) (m : Memory) (unat : ℕ)
     → (holds r insn.qp ≡ true → accesses_memory (insn_action insn) ≡ false)
     → (let o = effect s insn r m unat in settled next m o.next o).memory.bytes ≡ m.bytes

@@ -306,7 +306,7 @@ six_bits :
 unfolding look spot holds
 six_bits = (refl, refl)
 
--- A NaT source is a fault, and that fault comes before one of a reserved field.
+-- A NaT source is a fault, and comes before a reserved field.
 nat_moved :
     (run 0 (op.MovToAr Pfs 4) (with_r4 (nat_cell (2 ^ 38))) ≡ faults NatConsumed memory)
     × (run 0 (op.MovToBr 6 3 false false 0 (pos 0)) registers ≡ faults NatConsumed memory)
@@ -314,7 +314,7 @@ nat_moved :
 unfolding look spot holds has_reserved_zeros predicate_writes
 nat_moved = (refl, refl, refl)
 
--- The writes that make the predicates from the n-th on 0, as many as the first number says.
+-- so many predicates become 0, from the n-th place on
 abbrev zeros : ℕ → ℕ → List Write → List Write
 zeros zero n ws = ws
 zeros (suc left) n ws = SetPredicate n false ∷ zeros left (suc n) ws
@@ -337,8 +337,7 @@ address_fetched : run 0 (op.MovFromIp 4) registers ≡ falls (SetStatic 4 (cell 
 unfolding look spot holds
 address_fetched = refl
 
--- Loop branches, two bundles on, in a frame with eight rotating registers and a predicate base of 1. p63 stands at place 16 in
--- it.
+-- Loop branches, two bundles on, in a frame with eight rotating registers and a predicate base of 1. p63 stands at place 16 in it.
 
 abbrev loop_frame : FrameShape
 loop_frame = record zero_frame { sof = 8; sor = 1; rrbs = record { gr = 0; fr = 0; pr = 1 } }
@@ -447,8 +446,7 @@ returned_to : return_from 25 0xc090_0001_040c_4288 32 ≡ goes (SetFrame Resized
 unfolding look spot holds marked_frame is_frame return_fault
 returned_to = refl
 
--- sof 97, sol above sof, 8 * sor above sof, a base of general registers past the rotating part, one of predicates of 48, a base
--- below sol, and another address than that of an entry
+-- sof 97, sol above sof, 8 * sor above sof, a base of general registers past the rotating part, one of predicates of 48, a base below sol, and another address than that of an entry
 return_faults :
     (return_from 25 97 32 ≡ faults BadFrame memory)
     × (return_from 25 (2 ^ 7) 32 ≡ faults BadFrame memory)
@@ -472,7 +470,7 @@ cleared_bases = (refl, refl)
 abbrev entry : Spot → ℕ → ℕ → AlatEntry
 entry key address size = record { key = key; address = address; size = size }
 
--- The entries of the cells from the n-th on, as many as the first number says.
+-- so many entries, of the cells from the n-th on
 abbrev many : ℕ → ℕ → List AlatEntry
 many zero n = []
 many (suc left) n = entry (Stacked n) 0x100000 8 ∷ many left (suc n)
@@ -575,8 +573,7 @@ filled = (refl, refl)
 abbrev defers : List Write → Memory → Outcome
 defers ws m = falls (SetStatic 2 (nat_cell 0) ∷ ws) m
 
--- A NaT address, an address that is not a multiple of 8, and bytes that are not data. A deferred `sa` invalidates its target, and
--- `s` does not.
+-- A NaT address, an address that is not a multiple of 8, and bytes that are not data. A deferred `sa` invalidates its target, and `s` does not.
 deferred_loads :
     (load_at load.S (nat_cell 0x100000) memory 0 ≡ defers [] memory)
     × (load_at load.S (cell 0x100001) memory 0 ≡ defers [] memory)

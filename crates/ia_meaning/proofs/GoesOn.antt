@@ -53,7 +53,7 @@ action_displacement action = None
 abbrev pub IsGoodTarget : (ℕ → Type 0) → ℕ → Option ℤ → Type 0
 IsGoodTarget Good bundle target = IfSome target (λ disp. Good (target_of bundle disp))
 
--- The bundles at which indirect branches arrive, with these first sixteen predicates, are good.
+-- so are the bundles at which indirect branches arrive with these first sixteen predicates
 abbrev pub AreGoodLandings : (ℕ → Type 0) → Site → List Bool → Type 0
 AreGoodLandings Good s low = (address : ℕ) → IfOk (s.arrival low address) Good
 
@@ -66,7 +66,7 @@ act_on Good s (Call b1 (Indirect b2)) r m unat landings target = (λ kind. tt, �
 act_on Good s (Return b2) r m unat landings target = (λ kind. tt, λ to _ e. lands_on Good _ to (landings _) e)
 act_on Good s action r m unat landings target = search (target)
 
--- A skipped action goes on in a good way where its target is a good bundle.
+-- so does one that is skipped
 skip_on : (Good : ℕ → Type 0) (s : Site) (action : Action) (r : Registers) (m : Memory) → IsGoodTarget Good s.bundle (action_displacement action) → SkipCases (IsGoodWay Good) s action r m
 skip_on Good s (Test kind p1 p2 r2 r3 c) r m target = (λ _. tt, λ _. tt)
 skip_on Good s (Loop kind disp) r m target = (λ _. target, λ _. tt)
@@ -85,11 +85,11 @@ effect_on Good s insn r m unat landings target =
 settled_as : (Good : ℕ → Type 0) (next : Option Place) (m : Memory) (way : Next) (o : Outcome) → IsGoodWay Good o → IsGoodWay Good (settled next m way o)
 settled_as Good next m way o h = grind arith
 
--- An outcome that goes on in a good way does so also where there may be no next place.
+-- So does an instruction where no next place may be.
 pub settled_on : (Good : ℕ → Type 0) (next : Option Place) (m : Memory) (o : Outcome) → IsGoodWay Good o → IsGoodWay Good (settled next m o.next o)
 settled_on Good next m o h = settled_as Good next m o.next o h
 
--- A slot falls through to a next place.
+-- it falls through, to a next place
 pub record FallsTo (next : Option Place) (o : Outcome) : Type 0 where
   pub falls : o.next ≡ Falls
   pub place : Place

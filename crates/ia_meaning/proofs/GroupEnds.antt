@@ -33,7 +33,7 @@ begun_under_way p s is = record { place = is; before = []; stand = tt; count = r
 pub zero_is_place : (p : Program) → IsProgram p → IsPlaceOf p.bundles (zero_state p).place
 zero_is_place p program = let c = program.counts in first_is_place p.bundles 0 (omega (arith, c.some))
 
--- A run that begins at the zero state is under way.
+-- so is one that begins at the zero state
 pub begins_under_way : (p : Program) → IsProgram p → IsUnderWay p (begun (zero_state p))
 begins_under_way p program = begun_under_way p (zero_state p) (zero_is_place p program)
 
@@ -73,12 +73,12 @@ to_end_under_way (suc most) p m program u =
     let v = advances_under_way p m program u in
     rest_under_way p (advanced p m).slots (advanced p m) (to_group_end most p (advanced p m)) v (to_end_under_way most p (advanced p m) program v)
 
--- A run under way stays under way, one group further.
+-- one group further
 pub group_under_way : (p : Program) (m : Progress) → IsProgram p → IsUnderWay p m → IsUnderWay p (group_further p m)
 unfolding group_further
 group_under_way p m program u = to_end_under_way RUN_LIMIT p m program u
 
--- A run under way stays under way, n groups further.
+-- so many groups further
 pub goes_on_under_way : (n : ℕ) (p : Program) (m : Progress) → IsProgram p → IsUnderWay p m → IsUnderWay p (groups_further n p m)
 goes_on_under_way zero p m program u = u
 goes_on_under_way (suc n) p m program u = goes_on_under_way n p (group_further p m) program (group_under_way p m program u)

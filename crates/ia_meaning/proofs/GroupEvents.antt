@@ -23,7 +23,7 @@ with_slots m last how n k e = ap (λ (slots : ℕ). event_ending m last slots ho
 abbrev pub event_with : Progress → Group → GroupEvent
 event_with m group = event_ending m group.last (m.slots + group.slots) (how_of group.how)
 
--- What a lemma says of a group under way and a bound on its slots.
+-- what a lemma says of a group under way and at most so many slots
 abbrev pub ComesToEvent : ℕ → Program → Type 0
 ComesToEvent most p =
     (m : Progress) → m.end ≡ None → (k : ℕ) → m.slots ≡ suc k → event_to_end most p m ≡ event_with m (group_within most p m.state)

@@ -81,7 +81,7 @@ rest_further next rest more = of next.slots refl
     of zero e = absurd (more e)
     of (suc k) e = refl
 
--- The rest of a group, in at most `most` steps.
+-- the rest of a group, in at most so many steps
 pub record IsRest (most : ℕ) (p : Program) (m : Progress) : Type 0 where
   pub group : to_group_end (suc most) p m ≡ to_group_end most p (advanced p m)
   pub event : event_to_end (suc most) p m ≡ event_to_end most p (advanced p m)

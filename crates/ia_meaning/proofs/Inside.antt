@@ -21,7 +21,7 @@ use Rattle.ia_meaning.specs.ParallelGroups.{outcome_from}
 use Rattle.ia_meaning.proofs.GoesOn.{IsGoodNext, IsGoodWay, IsGoodTarget, effect_on, settled_on, falls_to, effect_leaves}
 use Rattle.ia_meaning.proofs.Follows.{arrival_small, target_small, next_is, not_stopped}
 
--- The number is that of a bundle of the program.
+-- it is a bundle of the program
 abbrev pub IsBundleOf : Program → ℕ → Type 0
 IsBundleOf p bundle = bundle < length p.bundles
 
@@ -47,7 +47,7 @@ outcome_good p s insn inside e =
 pub first_is_place : (bundles : List Bundle) (n : ℕ) → n < length bundles → IsPlaceOf bundles (first_of n)
 first_is_place bundles n h = let s = get_some bundles n h in is_place bundles (first_of n) s.0 s.1 (omega arith)
 
--- The place that a branch of a program goes to is one of the program, whatever the instruction reads.
+-- so the place that a branch goes to is one of the program, whatever the instruction reads
 pub goes_inside : (p : Program) (place : Place) (insn : Insn) (r : Registers) (m : Memory) (unat bundle : ℕ) → IsProgram p → IsPlaceOf p.bundles place → insn_at p.bundles place ≡ Some insn → (effect (site p place.bundle) insn r m unat).next ≡ Goes bundle → IsPlaceOf p.bundles (first_of bundle)
 goes_inside p place insn r m unat bundle program is e goes =
     first_is_place p.bundles bundle (subst (IsGoodNext (IsBundleOf p)) goes (effect_good p place insn r m unat (program.targets place is) e))

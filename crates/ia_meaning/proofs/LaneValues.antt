@@ -11,7 +11,7 @@ lane_fits Psub width x y = mod_below (x + 2 ^ width - y) (2 ^ width) (pow_pos wi
 lane_fits PcmpEq width x y = let some = pow_pos width in grind arith
 lane_fits PcmpGt width x y = let some = pow_pos width in grind arith
 
--- The sum of `count` lanes from lane n on, and the lanes below it.
+-- the sum of so many lanes from lane n on, and the lanes below it
 pub lanes_fit : (f : LaneFn) (width a b n count : ℕ) → lanes_from f width a b n count + 2 ^ (width * n) ≤ 2 ^ (width * (n + count))
 lanes_fit f width a b n zero = let e : n + 0 ≡ n = omega arith in rw e (omega arith)
 lanes_fit f width a b n (suc count) =

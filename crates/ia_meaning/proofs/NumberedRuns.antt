@@ -11,7 +11,7 @@ numbered_is : (number : ℕ) (p : Program) (s : State) → numbered_group number
 unfolding numbered_group
 numbered_is number p s = refl
 
--- A run goes on in the same way by the same group and the same rest.
+-- the same group, and the same rest of the run
 same_run : (g h : Group) (number : ℕ) (s : State) (rest other : Run) → g ≡ h → rest ≡ other → run_by g (event_of number s.place g) g.end rest ≡ run_by h (event_of number s.place h) h.end other
 same_run g h number s rest other e f = rw (e, f) refl
 

@@ -10,13 +10,13 @@ pub holds_zero : (r : Registers) → holds r 0 ≡ true
 unfolding holds
 holds_zero r = refl
 
--- Each predicate other than p0 is what stands at its place.
+-- and each other predicate is what stands at its place
 pub holds_at_place : (r : Registers) (p : ℕ) → p ≢ 0 → holds r p ≡ get_or r.predicates (predicate_index r.frame p) false
 unfolding holds
 holds_at_place r zero h = absurd (h refl)
 holds_at_place r (suc p) h = refl
 
--- A predicate is the same where the same stands at its place.
+-- so it is the same where the same stands there
 pub holds_by_place : (now r : Registers) (p : ℕ) → (p ≢ 0 → get_or now.predicates (predicate_index now.frame p) false ≡ get_or r.predicates (predicate_index r.frame p) false) → holds now p ≡ holds r p
 unfolding holds
 holds_by_place now r zero e = refl
@@ -37,7 +37,7 @@ pub high_place : (f : FrameShape) (p : ℕ) → 16 ≤ p → predicate_index f p
 unfolding predicate_index
 high_place f p h = rw (le-leb 16 p h) refl
 
--- A predicate that rotates stands at a place of those that do.
+-- and one that rotates at a place of those that do
 pub place_high : (f : FrameShape) (p : ℕ) → 16 ≤ p → 16 ≤ predicate_index f p
 place_high f p h = let e = high_place f p h in omega arith
 

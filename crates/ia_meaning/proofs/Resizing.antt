@@ -1,4 +1,4 @@
--- The cells that a write of the frame leaves: how many there are, and that each is a word.
+-- The cells that a write of the frame leaves: so many, and each a word.
 use Rattle.std.proofs.Common.{◌≡◌, ℕ, zero, suc, List, [], ◌∷◌, length, refl, ap, arith}
 use Rattle.std.proofs.lemmas.List.Elements.{All-nil, All-cons, All-head, All-tail}
 use Rattle.ia_meaning.specs.declared.state.Cell.{Cell}

@@ -70,7 +70,7 @@ next_group p m program u none slots =
       groups = has.groups;
     }
 
--- The events of n groups further, from between two groups, are those of the run of n groups.
+-- The events of so many groups further are those of the run of so many groups, from between two groups.
 rest_events : (n number : ℕ) (p : Program) (m : Progress) → IsProgram p → IsUnderWay p m → m.end ≡ None → m.slots ≡ 0 → m.groups + 1 ≡ number → events_further n p m ≡ (run_from (λ k s. seq_group p s) number n m.state).events
 rest_events zero number p m program u none slots count = refl
 rest_events (suc n) number p m program u none slots count =
@@ -83,7 +83,7 @@ rest_events (suc n) number p m program u none slots count =
     (λ goes. subst (λ (s : State). events_further n p (group_further p m) ≡ (run_from (λ k t. seq_group p t) (suc number) n s).events) next.state
     (rest_events n (suc number) p (group_further p m) program next.under_way (next.end ∙ goes) next.slots (omega (arith, next.groups))))
 
--- The frame changes of n groups further, from between two groups, are those of the run of n groups.
+-- So are the frame changes.
 rest_frames : (n number : ℕ) (p : Program) (m : Progress) → IsProgram p → IsUnderWay p m → m.end ≡ None → m.slots ≡ 0 → frames_further n p m ≡ (run_from (λ k s. seq_group p s) number n m.state).frames
 rest_frames zero number p m program u none slots = refl
 rest_frames (suc n) number p m program u none slots =

@@ -56,7 +56,7 @@ sees_no_static f n e = refl
 sees_no_predicate : (insn : Insn) (f : FrameShape) (n : ℕ) → is_branch (insn_action insn) ≡ false → sees_predicate insn f n ≡ false
 sees_no_predicate insn f n e = ap (λ b. (b && (n == predicate_index f insn.qp)) || sees_static (insn_action insn) n) e ∙ sees_no_static (insn_action insn) n e
 
--- An instruction other than a branch sees the registers of the start.
+-- so it sees the registers of the start
 pub view_plain : (insn : Insn) (now base : Registers) → is_branch (insn_action insn) ≡ false → view insn now base ≡ base
 view_plain insn now base e =
     let predicates = seen_none (sees_predicate insn base.frame) (λ n. sees_no_predicate insn base.frame n e) 0 base.predicates now.predicates in

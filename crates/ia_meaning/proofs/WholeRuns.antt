@@ -60,7 +60,7 @@ pub record HasGroup (m after : Progress) (group : Group) : Type 0 where
   pub groups : after.groups ≡ m.groups
   pub range : after.range ≡ range_of m.range group.frames
 
--- What a lemma says of a group under way and a bound on its slots.
+-- what a lemma says of a group under way and at most so many slots
 abbrev pub ComesToEnd : ℕ → Program → Type 0
 ComesToEnd most p =
     (m : Progress) → m.end ≡ None → (k : ℕ) → m.slots ≡ suc k → HasGroup m (to_group_end most p m) (group_within most p m.state)
@@ -122,7 +122,7 @@ run_step m next after group event rest has ended goes None is =
       range = h.range ∙ ap (λ (r : Rse). range_of r rest.frames) has.range ∙ range_appended m.range group.frames rest.frames;
     }
 
--- Going n groups further, from between two groups, comes to the run of n groups.
+-- So many groups further is the run of so many groups, from between two groups.
 pub rest_is : (n number : ℕ) (p : Program) (m : Progress) → IsProgram p → IsUnderWay p m → m.end ≡ None → m.slots ≡ 0 → HasRest m (groups_further n p m) (run_from (λ k s. seq_group p s) number n m.state)
 rest_is zero number p m program u none slots = record { state = refl; end = rw none refl; groups = omega arith; range = refl }
 rest_is (suc n) number p m program u none slots =

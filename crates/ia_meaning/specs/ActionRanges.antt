@@ -8,7 +8,7 @@ use Rattle.ia_meaning.specs.declared.action.Condition.TheVariants.{BitIsZero}
 use Rattle.ia_meaning.specs.declared.action.Action.{Action}
 use Rattle.ia_meaning.specs.declared.action.Action.TheVariants.{Compute, Test, FromMemory, ToMemory, Exchange, Allocate}
 
--- A function's counts, fields and sizes are those for which its value is defined.
+-- counts, fields and sizes are those that its value is defined for
 abbrev pub IsFunction : Function → Type 0
 IsFunction (ShiftAdd p4 count) = count ≤ 63
 IsFunction (Lanes f size) = IsPartSize size
@@ -23,7 +23,7 @@ abbrev pub IsCondition : Condition → Type 0
 IsCondition (BitIsZero pos) = pos ≤ 63
 IsCondition c = Unit {0}
 
--- An action's counts, fields and sizes, those of loads, stores and frames too, are those for which its effect is defined.
+-- so are the sizes of a load, a store and a frame
 abbrev pub HasActionRanges : Action → Type 0
 HasActionRanges (Compute r1 r2 r3 f) = IsFunction f
 HasActionRanges (Test kind p1 p2 r2 r3 c) = IsCondition c

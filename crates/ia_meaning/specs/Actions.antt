@@ -28,11 +28,11 @@ use Rattle.ia_meaning.specs.Lanes.{lanes}
 abbrev pub test_kind : Bool → CmpKind
 test_kind unc = if unc then Unc else Normal
 
--- The addition of `adds` or, where p4 is set, of `addp4` with an immediate.
+-- the addition of `adds` or, where p4 is set, of `addp4` with an immediate
 abbrev pub addition : Bool → AluFn
 addition p4 = if p4 then Addp4 else Add
 
--- The immediate of `dep` that is ones in each bit, or zeros.
+-- the immediate of `dep` that is ones in each bit, or zeros
 abbrev pub filling : Bool → ℤ
 filling ones = if ones then negsuc 0 else positive 0
 
@@ -91,13 +91,13 @@ action_of (op.BrInd b2 wh many clr) = JumpIndirect b2
 action_of (op.BrRet b2 wh many clr) = Return b2
 action_of (op.BrCallInd b1 b2 wh many clr) = Call b1 (callee.Indirect b2)
 action_of (op.Clrrrb pred_only) = ClearBases pred_only
--- X and the common ones.
+-- X and the common ones
 action_of (op.Movl r1 imm) = Compute r1 0 0 (function.Immediate imm)
 action_of (op.Break unit imm) = Stop unit imm
 action_of (op.Nop unit imm) = Idle unit
 action_of (op.Hint unit imm) = Idle unit
 
--- The value of a function of the values of r2 and r3.
+-- the value of a function of the values of r2 and r3
 abbrev pub value_of : Function → ℕ → ℕ → ℕ
 value_of (function.Alu f) a b = alu f a b
 value_of (function.ShiftAdd p4 count) a b = shift_add p4 count a b
@@ -112,30 +112,30 @@ value_of (function.DepositImmediate pos len imm) a b = deposit pos len (immediat
 value_of (function.Extend signed size) a b = extend signed size b
 value_of (function.Immediate imm) a b = imm
 
--- The result of a test of r2 and r3, which may be none.
+-- the result of a test of r2 and r3, which may be none
 abbrev pub result_of : Condition → Cell → Cell → Option Bool
 result_of (condition.Compare four_bytes rel) a b = tested (compared four_bytes rel) a b
 result_of (condition.CompareImmediate four_bytes rel imm) a b = tested (λ _ y. compared four_bytes rel (immediate imm) y) a b
 result_of (condition.BitIsZero pos) a b = tested (λ _ y. not (bit y pos)) a b
 result_of condition.NatIsZero a b = Some (not b.nat)
 
--- The word that is moved, where r2 has this value.
+-- the word that is moved, where r2 has this value
 abbrev pub moved : MovedWord → ℕ → ℕ
 moved word.Register a = a
 moved (word.Immediate imm) a = immediate imm
 
--- The action of an instruction.
+-- the action of an instruction
 abbrev pub insn_action : Insn → Action
 insn_action insn = action_of insn.op
 
--- A load, a store or an exchange.
+-- a load, a store or an exchange
 abbrev pub accesses_memory : Action → Bool
 accesses_memory (FromMemory size kind r1 r3 u) = true
 accesses_memory (ToMemory size kind r3 r2 u) = true
 accesses_memory (Exchange size r1 r3 r2 inc) = true
 accesses_memory f = false
 
--- A branch, direct or indirect, loop branches, calls and returns among them.
+-- a branch, direct or indirect, loop branches, calls and returns among them
 abbrev pub is_branch : Action → Bool
 is_branch (Jump disp) = true
 is_branch (JumpIndirect b2) = true
@@ -144,7 +144,7 @@ is_branch (Call b1 callee) = true
 is_branch (Return b2) = true
 is_branch f = false
 
--- An indirect branch, a call or a return: it goes where a branch register says.
+-- an indirect branch, a call or a return: it goes where a branch register says
 abbrev pub is_indirect : Action → Bool
 is_indirect (JumpIndirect b2) = true
 is_indirect (Call b1 (callee.Indirect b2)) = true
@@ -155,7 +155,7 @@ abbrev pub is_alloc : Action → Bool
 is_alloc (Allocate r1 sof sol sor) = true
 is_alloc f = false
 
--- A slot that is an `alloc`.
+-- a slot that is an `alloc`
 abbrev pub allocates : Option Insn → Bool
 allocates None = false
 allocates (Some insn) = is_alloc (insn_action insn)

@@ -9,15 +9,15 @@ use Rattle.ia_insn.specs.declared.choices.Rel.{Rel}
 use Rattle.ia_insn.specs.declared.choices.Rel.TheVariants.{Eq, Ne, Lt, Ltu, Gt, Ge, Le}
 use Rattle.ia_meaning.specs.declared.state.Cell.{Cell}
 
--- 64 bits.
+-- 64 bits
 abbrev pub word : ℕ → ℕ
 word n = n % 2 ^ 64
 
--- The word with each bit turned.
+-- the word with each bit turned
 abbrev pub complement : ℕ → ℕ
 complement a = 2 ^ 64 - 1 - a
 
--- An immediate as a word: sign-extended.
+-- an immediate as a word: sign-extended
 abbrev pub immediate : ℤ → ℕ
 immediate imm = twos 64 imm
 
@@ -63,15 +63,15 @@ shift Shl a count = shift_left a count
 abbrev pub shift_pair : ℕ → ℕ → ℕ → ℕ
 shift_pair count a b = word ((2 ^ 64 * a + b) / 2 ^ count)
 
--- A number of `width` bits, 1 to 64, sign-extended to a word.
+-- A number of so many bits, 1 to 64, sign-extended to a word.
 abbrev pub extended : ℕ → ℕ → ℕ
 extended width n = if nat_lt n (2 ^ (width - 1)) then n else n + 2 ^ 64 - 2 ^ width
 
--- The length of a field, cut at bit 63.
+-- the length of a field, cut at bit 63
 abbrev pub cut : ℕ → ℕ → ℕ
 cut pos len = min len (64 - pos)
 
--- The `len` bits of a number from bit `pos` on.
+-- so many bits from a position on
 abbrev pub field : ℕ → ℕ → ℕ → ℕ
 field a pos len = (a / 2 ^ pos) % 2 ^ len
 
@@ -85,11 +85,11 @@ abbrev pub deposit : ℕ → ℕ → ℕ → ℕ → ℕ
 deposit pos len x a =
     a % 2 ^ pos + 2 ^ pos * (x % 2 ^ cut pos len) + 2 ^ (pos + cut pos len) * (a / 2 ^ (pos + cut pos len))
 
--- What `sxt` and `zxt` give for the low `size` bytes.
+-- `sxt` and `zxt` from so many bytes
 abbrev pub extend : Bool → ℕ → ℕ → ℕ
 extend signed size a = if signed then extended (8 * size) (a % 2 ^ (8 * size)) else a % 2 ^ (8 * size)
 
--- Whether the relation holds of two numbers of `width` bits.
+-- the relation of two numbers of so many bits
 abbrev pub related : ℕ → Rel → ℕ → ℕ → Bool
 related width Eq a b = a == b
 related width Ne a b = not (a == b)
@@ -103,7 +103,7 @@ related width Le a b = int_le (signed_of width a) (signed_of width b)
 abbrev pub compared : Bool → Rel → ℕ → ℕ → Bool
 compared four_bytes rel a b = if four_bytes then related 32 rel (a % 2 ^ 32) (b % 2 ^ 32) else related 64 rel a b
 
--- Bit n of a number.
+-- bit n of a number
 abbrev pub bit : ℕ → ℕ → Bool
 bit a n = (a / 2 ^ n) % 2 == 1
 

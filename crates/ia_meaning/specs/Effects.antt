@@ -20,7 +20,7 @@ use Rattle.ia_meaning.specs.Frames.{with_sizes, allocated, cleared, call_writes,
 use Rattle.ia_meaning.specs.Loops.{turn_of, turned}
 use Rattle.ia_meaning.specs.Landings.{target_of, arrival}
 
--- Where a slot stands: the bundle, and where an indirect branch arrives, by the first sixteen predicates and an address.
+-- where a slot stands: the bundle, and where an indirect branch arrives, by the first sixteen predicates and an address
 pub record Site : Type 0 where
   pub bundle : ℕ
   pub arrival : List Bool → ℕ → Result ℕ FaultKind
@@ -28,11 +28,11 @@ pub record Site : Type 0 where
 abbrev pub site : Program → ℕ → Site
 site p bundle = record { bundle = bundle; arrival = arrival p }
 
--- Where an indirect branch through a branch register arrives.
+-- where an indirect branch through a branch register arrives
 abbrev pub arrives : Site → Registers → ℕ → Result ℕ FaultKind
 arrives s r b = s.arrival (take 16 r.predicates) (get_or r.branches b 0)
 
--- A call's writes, and where it goes.
+-- a call's writes, and where it goes
 abbrev pub called : CallTarget → Site → List Write → Registers → Memory → Outcome
 called (Direct disp) s ws r m = goes ws m (target_of s.bundle disp)
 called (Indirect b2) s ws r m = lands ws m (arrives s r b2)
@@ -72,10 +72,10 @@ skip s (Test kind p1 p2 r2 r3 c) r m = test_skipped kind (predicate_spot r.frame
 skip s (Loop kind disp) r m = turned (turn_of kind false r.lc r.ec) r.frame (target_of s.bundle disp) m
 skip s action r m = falls [] m
 
--- The effect of an action under a qualifying predicate.
+-- the effect of an action under a qualifying predicate
 abbrev pub guarded : Site → ℕ → Action → Registers → Memory → ℕ → Outcome
 guarded s qp action r m unat = if holds r qp then act s action r m unat else skip s action r m
 
--- The effect of an instruction.
+-- the effect of an instruction
 abbrev pub effect : Site → Insn → Registers → Memory → ℕ → Outcome
 effect s insn r m unat = guarded s insn.qp (insn_action insn) r m unat

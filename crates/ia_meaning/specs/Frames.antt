@@ -17,7 +17,7 @@ use Rattle.ia_meaning.specs.Outcomes.{Outcome, falls, goes, faults, faults_or}
 abbrev pub with_sizes : FrameShape → ℕ → ℕ → ℕ → FrameShape
 with_sizes f sof sol sor = record f { sof = sof; sol = sol; sor = sor }
 
--- All rename bases are 0.
+-- all rename bases are 0
 unfoldable pub has_zero_bases : FrameShape → Bool
 has_zero_bases f = (f.rrbs.gr == 0) && (f.rrbs.fr == 0) && (f.rrbs.pr == 0)
 
@@ -44,12 +44,12 @@ rotated f = record f {
 abbrev pub cleared : Bool → FrameShape → FrameShape
 cleared pred_only f = if pred_only then record f { rrbs = record f.rrbs { pr = 0 } } else record f { rrbs = zero_bases }
 
--- The current frame marker, CFM, as a number.
+-- the current frame marker, CFM, as a number
 unfoldable pub frame_marker : FrameShape → ℕ
 frame_marker f =
     f.sof + 2 ^ 7 * f.sol + 2 ^ 14 * f.sor + 2 ^ 18 * f.rrbs.gr + 2 ^ 25 * f.rrbs.fr + 2 ^ 32 * f.rrbs.pr
 
--- The frame at a base whose marker is in the low bits of a previous function state.
+-- the frame at a base whose marker is in the low bits of a previous function state
 unfoldable pub marked_frame : ℕ → ℕ → FrameShape
 marked_frame base pfs = record {
   base = base;
@@ -59,15 +59,15 @@ marked_frame base pfs = record {
   rrbs = record { gr = (pfs / 2 ^ 18) % 2 ^ 7; fr = (pfs / 2 ^ 25) % 2 ^ 7; pr = (pfs / 2 ^ 32) % 2 ^ 6 };
 }
 
--- The previous function state that a call writes: the frame, EC, and 3 as the privilege level.
+-- the previous function state that a call writes: the frame, EC, and 3 as the privilege level
 unfoldable pub call_state : FrameShape → ℕ → ℕ
 call_state f ec = frame_marker f + 2 ^ 52 * ec + 2 ^ 62 * 3
 
--- The epilog count in a previous function state.
+-- the epilog count in a previous function state
 abbrev pub epilog_of : ℕ → ℕ
 epilog_of pfs = (pfs / 2 ^ 52) % 2 ^ 6
 
--- The frame of a call: the caller's without its locals.
+-- the frame of a call: the caller's without its locals
 abbrev pub call_frame : FrameShape → FrameShape
 call_frame f = record { base = f.base + f.sol; sof = f.sof - f.sol; sol = 0; sor = 0; rrbs = zero_bases }
 
@@ -76,12 +76,12 @@ abbrev pub call_writes : ℕ → ℕ → FrameShape → ℕ → List Write
 call_writes bundle b1 f ec =
     SetBranch b1 (bundle_address (bundle + 1)) ∷ SetPfs (call_state f ec) ∷ SetFrame Resized (call_frame f) ∷ []
 
--- An indirect branch, which arrives at a bundle or has a fault.
+-- an indirect branch, which arrives at a bundle or has a fault
 abbrev pub lands : List Write → Memory → Result ℕ FaultKind → Outcome
 lands ws m (Ok bundle) = goes ws m bundle
 lands ws m (Err kind) = faults kind m
 
--- The sizes and bases are those of a frame.
+-- the sizes and bases are those of a frame
 unfoldable pub is_frame : FrameShape → Bool
 is_frame f =
     not (nat_lt 96 f.sof) && not (nat_lt f.sof f.sol) && not (nat_lt f.sof (8 * f.sor))

@@ -13,12 +13,12 @@ use Rattle.ia_program.specs.Bundles.{Bundle}
 use Rattle.ia_program.specs.Programs.{Program, IsEntry, relation_at, relations_at}
 use Rattle.ia_program.specs.Addresses.{bundle_address}
 
--- The bundle that is `disp` bundles from this one. A program's targets are its bundles, so the sum isn't negative; of a negative
+-- The bundle that is so many from this one. A program's targets are its bundles, so the sum isn't negative; of a negative
 -- one it is the distance.
 abbrev pub target_of : ℕ → ℤ → ℕ
 target_of bundle disp = nat_abs (pos bundle +ℤ disp)
 
--- A number is one of these.
+-- a number is one of these
 abbrev pub is_one_of : ℕ → List ℕ → Bool
 is_one_of n [] = false
 is_one_of n (k ∷ ks) = (n == k) || is_one_of n ks
@@ -32,7 +32,7 @@ abbrev pub has_call : Slots → Bool
 has_call (Three a b c) = is_call a.op || (is_call b.op || is_call c.op)
 has_call (Long first long) = is_call first.op || is_call long.op
 
--- The bundle holds a call.
+-- the bundle holds a call
 abbrev pub holds_call : Option Bundle → Bool
 holds_call None = false
 holds_call (Some b) = has_call b.slots
@@ -49,7 +49,7 @@ landing p x =
     if nat_le (bundle_address 0) x && is_entry p ((x - bundle_address 0) / 16) then Some ((x - bundle_address 0) / 16)
     else None
 
--- Both predicates of a relation are 1 among the first sixteen predicates.
+-- both predicates of a relation are 1 in the first sixteen
 abbrev pub are_both_one : List Bool → Relation → Bool
 are_both_one low r = get_or low r.p false && get_or low r.q false
 
@@ -57,7 +57,7 @@ are_both_one low r = get_or low r.p false && get_or low r.q false
 abbrev pub breaks_relation : Program → List Bool → ℕ → Bool
 breaks_relation p low bundle = list_any (are_both_one low) (relations_at p.relations bundle)
 
--- An indirect branch to an entry, or to no entry, with these first sixteen predicates.
+-- an indirect branch to an entry, or to no entry, with these first sixteen predicates
 abbrev pub arrived : Program → List Bool → Option ℕ → Result ℕ FaultKind
 arrived p low None = Err BadLanding
 arrived p low (Some bundle) = if breaks_relation p low bundle then Err BadRelation else Ok bundle
@@ -71,7 +71,7 @@ arrival p low x = arrived p low (landing p x)
 abbrev pub EntryTest : Type 0
 EntryTest = (p : Program) (n : ℕ) → IsTrue (is_entry p n) ↔ IsEntry p n
 
--- A declared relation of the bundle, of two predicates that are both 1 in the first sixteen.
+-- a declared relation of the bundle, of two predicates that are both 1 in the first sixteen
 pub record IsBroken (p : Program) (low : List Bool) (bundle : ℕ) : Type 0 where
   pub n : ℕ
   pub inside : n < length p.relations

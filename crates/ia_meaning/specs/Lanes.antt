@@ -6,27 +6,27 @@ use Rattle.ia_insn.specs.declared.choices.LaneFn.TheVariants.{Padd, Psub, PcmpEq
 use Rattle.ia_insn.specs.declared.choices.Rel.TheVariants.{Eq, Gt}
 use Rattle.ia_meaning.specs.Arithmetic.{field, related}
 
--- Lane n of a word whose lanes have `width` bits.
+-- lane n of a word, where a lane has so many bits
 abbrev pub lane : ℕ → ℕ → ℕ → ℕ
 lane width n a = field a (width * n) width
 
--- A lane of `width` ones where the test holds, and else of zeros.
+-- so many ones, or zeros
 abbrev pub ones_if : ℕ → Bool → ℕ
 ones_if width b = if b then 2 ^ width - 1 else 0
 
--- What an operation gives for two lanes of `width` bits. A compare takes them as signed.
+-- what an operation gives for two lanes of so many bits; a compare takes them as signed
 abbrev pub lane_value : LaneFn → ℕ → ℕ → ℕ → ℕ
 lane_value Padd width x y = (x + y) % 2 ^ width
 lane_value Psub width x y = (x + 2 ^ width - y) % 2 ^ width
 lane_value PcmpEq width x y = ones_if width (related width Eq x y)
 lane_value PcmpGt width x y = ones_if width (related width Gt x y)
 
--- The sum of what an operation gives for `count` lanes from lane n on, each times 2 to the power of its lowest bit.
+-- the sum of what it gives for so many lanes from lane n on, each times 2 to the power of its lowest bit
 abbrev pub lanes_from : LaneFn → ℕ → ℕ → ℕ → ℕ → ℕ → ℕ
 lanes_from f width a b n zero = 0
 lanes_from f width a b n (suc count) =
     lane_value f width (lane width n a) (lane width n b) * 2 ^ (width * n) + lanes_from f width a b (suc n) count
 
--- What an operation gives for all lanes of two words, whose lanes have `size` bytes.
+-- and for all lanes of two words, where a lane has so many bytes
 abbrev pub lanes : LaneFn → ℕ → ℕ → ℕ → ℕ
 lanes f size a b = lanes_from f (8 * size) a b 0 (8 / size)

@@ -23,13 +23,13 @@ use Rattle.ia_meaning.specs.Names.{set_spot}
 use Rattle.ia_meaning.specs.Arithmetic.{word, immediate, bit}
 use Rattle.ia_meaning.specs.Outcomes.{Outcome, falls, goes, faults, faults_or}
 
--- The fault of an access to `size` bytes: an address that isn't a multiple of the size, and then bytes that aren't data.
+-- The fault of an access to so many bytes: an address that isn't a multiple of the size, and then bytes that aren't data.
 unfoldable pub access_fault : List ℕ → ℕ → ℕ → Option FaultKind
 access_fault bytes address size =
     if not (address % size == 0) then Some Unaligned
     else if nat_le data_base address && nat_le (address + size) (data_base + length bytes) then None else Some BadAddress
 
--- The number that n bytes from position `at` on spell, the lowest first.
+-- the number that so many bytes spell, the lowest first
 abbrev pub bytes_at : List ℕ → ℕ → ℕ → ℕ
 bytes_at bytes at zero = 0
 bytes_at bytes at (suc n) = get_or bytes at 0 + 256 * bytes_at bytes (suc at) n
@@ -43,7 +43,7 @@ ByteIsAtItsAddress =
     (bytes : List ℕ) (n : ℕ) → n < length bytes
     → (access_fault bytes (data_address n) 1 ≡ None) × (loaded bytes (data_address n) 1 ≡ get_or bytes n 0)
 
--- The bytes with the low bytes of a number from a place on.
+-- the bytes with the low bytes of a number from a place on
 abbrev pub with_bytes : List ℕ → ℕ → ℕ → ℕ → List ℕ
 with_bytes bytes at zero x = bytes
 with_bytes bytes at (suc n) x = with_bytes (set bytes at (x % 256)) (suc at) n (x / 256)
@@ -51,37 +51,37 @@ with_bytes bytes at (suc n) x = with_bytes (set bytes at (x % 256)) (suc at) n (
 unfoldable pub stored : List ℕ → ℕ → ℕ → ℕ → List ℕ
 stored bytes address size x = with_bytes bytes (address - data_base) size x
 
--- Places of registers are the same.
+-- places of registers are the same
 abbrev pub is_spot : Spot → Spot → Bool
 is_spot (Static n) (Static k) = n == k
 is_spot (Stacked n) (Stacked k) = n == k
 is_spot d e = false
 
--- The entries without those of the register.
+-- the entries without those of the register
 unfoldable pub invalidated : List AlatEntry → Spot → List AlatEntry
 invalidated [] d = []
 invalidated (e ∷ es) d = if is_spot e.key d then invalidated es d else e ∷ invalidated es d
 
--- The newest entry comes last; an entry of the same register goes, and where ALAT_LIMIT are left the oldest goes.
+-- the newest entry comes last; an entry of the same register goes, and where ALAT_LIMIT are left the oldest goes
 unfoldable pub entered : List AlatEntry → AlatEntry → List AlatEntry
 entered es e = drop (length (invalidated es e.key) - (ALAT_LIMIT - 1)) (invalidated es e.key) ++ e ∷ []
 
--- An entry's bytes and those of an access don't meet.
+-- an entry's bytes and those of an access don't meet
 abbrev pub is_apart : AlatEntry → ℕ → ℕ → Bool
 is_apart e address size = nat_le (e.address + e.size) address || nat_le (address + size) e.address
 
--- The entries whose bytes a store doesn't touch.
+-- the entries whose bytes a store doesn't touch
 unfoldable pub untouched : List AlatEntry → ℕ → ℕ → List AlatEntry
 untouched [] address size = []
 untouched (e ∷ es) address size =
     if is_apart e address size then e ∷ untouched es address size else untouched es address size
 
--- An equal entry is there.
+-- an equal entry is there
 unfoldable pub has_hit : List AlatEntry → AlatEntry → Bool
 has_hit [] e = false
 has_hit (d ∷ ds) e = (is_spot d.key e.key && (d.address == e.address) && (d.size == e.size)) || has_hit ds e
 
--- An entry of the register is there.
+-- an entry of the register is there
 unfoldable pub has_entry : List AlatEntry → Spot → Bool
 has_entry [] d = false
 has_entry (e ∷ es) d = is_spot e.key d || has_entry es d
@@ -99,7 +99,7 @@ base_writes (update.Reg r2) d base more =
 base_writes (update.Imm imm) d base more =
     set_spot d (record { value = word (base.value + immediate imm); nat = base.nat }) []
 
--- The number of the bit of UNAT that a spill or a fill uses.
+-- the number of the bit of UNAT that a spill or a fill uses
 abbrev pub unat_bit : ℕ → ℕ
 unat_bit address = (address / 8) % 64
 
@@ -116,7 +116,7 @@ is_check load.CNc = true
 is_check load.CClrAcq = true
 is_check kind = false
 
--- What a load leaves in the ALAT: `a`, `sa` and `c.nc` enter the target, and the other checks invalidate it.
+-- what a load leaves in the ALAT: `a`, `sa` and `c.nc` enter the target, and the other checks invalidate it
 abbrev pub load_alat : LoadKind → AlatEntry → List AlatEntry → List AlatEntry
 load_alat load.A e es = entered es e
 load_alat load.Sa e es = entered es e
@@ -125,12 +125,12 @@ load_alat load.CClr e es = invalidated es e.key
 load_alat load.CClrAcq e es = invalidated es e.key
 load_alat kind e es = es
 
--- A fill takes the NaT bit from UNAT.
+-- a fill takes the NaT bit from UNAT
 abbrev pub load_nat : LoadKind → ℕ → ℕ → Bool
 load_nat load.Fill address unat = bit unat (unat_bit address)
 load_nat kind address unat = false
 
--- A load that is neither deferred nor a hit.
+-- a load that is neither deferred nor a hit
 abbrev pub load_made : LoadKind → AlatEntry → Memory → ℕ → List Write → Outcome
 load_made kind e m unat ws =
     falls (set_spot e.key (record { value = loaded m.bytes e.address e.size; nat = load_nat kind e.address unat }) ws)
@@ -146,7 +146,7 @@ abbrev pub load_hit : LoadKind → Spot → Memory → List Write → Outcome
 load_hit load.CNc d m ws = falls ws m
 load_hit kind d m ws = falls ws (record m { alat = invalidated m.alat d })
 
--- A fault is deferred or comes.
+-- a fault is deferred or comes
 abbrev pub load_failed : FaultKind → LoadKind → Spot → Memory → List Write → Outcome
 load_failed k kind d m ws = if is_speculative kind then deferred kind d m ws else faults k m
 
@@ -166,12 +166,12 @@ from_memory size kind u (Some d) (Some e) (Some base) (Some more) m unat =
     else load_checked kind (record { key = d; address = base.value; size = size }) m unat (base_writes u e base more)
 from_memory size kind u _ _ _ _ m unat = faults OutOfFrame m
 
--- The bit of UNAT that a store writes.
+-- the bit of UNAT that a store writes
 abbrev pub store_spills : StoreKind → ℕ → Cell → Option (ℕ × Bool)
 store_spills store.Spill address x = Some (unat_bit address, x.nat)
 store_spills kind address x = None
 
--- A spill stores a NaT.
+-- a spill stores a NaT
 abbrev pub takes_nat : StoreKind → Bool
 takes_nat store.Spill = true
 takes_nat kind = false

@@ -12,18 +12,18 @@ use Rattle.ia_meaning.specs.Names.{predicate_index}
 use Rattle.ia_meaning.specs.Frames.{rotated}
 use Rattle.ia_meaning.specs.Outcomes.{Outcome, falls, goes}
 
--- Nothing is written, and the slot falls through.
+-- nothing is written, and the slot falls through
 abbrev pub no_turn : Turn
 no_turn = record { lc = None; ec = None; p63 = None; rotates = false; taken = false }
 
--- A counted loop by its LC and its EC: `ctop` is taken while it goes on, and `cexit` where it ends.
+-- a counted loop by its LC and its EC: `ctop` is taken while it goes on, and `cexit` where it ends
 abbrev pub counted_turn : (top : Bool) → (lc ec : ℕ) → Turn
 counted_turn top zero zero = record { lc = None; ec = None; p63 = Some false; rotates = false; taken = not top }
 counted_turn top zero (suc zero) = record { lc = None; ec = Some 0; p63 = Some false; rotates = true; taken = not top }
 counted_turn top zero (suc (suc ec)) = record { lc = None; ec = Some (suc ec); p63 = Some false; rotates = true; taken = top }
 counted_turn top (suc lc) ec = record { lc = Some lc; ec = None; p63 = Some true; rotates = true; taken = top }
 
--- A while loop by its qualifying predicate: where that is 0 it is a counted loop at LC 0.
+-- a while loop by its qualifying predicate: where that is 0 it is a counted loop at LC 0
 abbrev pub while_turn : (top qp : Bool) → (ec : ℕ) → Turn
 while_turn top true ec = record { lc = None; ec = None; p63 = Some false; rotates = true; taken = top }
 while_turn top false ec = counted_turn top 0 ec
@@ -42,12 +42,12 @@ turn_of Cexit true lc ec = counted_turn false lc ec
 turn_of Ctop true lc ec = counted_turn true lc ec
 turn_of kind qp lc ec = no_turn
 
--- A write, where there is a value for it.
+-- a write, where there is a value for it
 abbrev pub written : {X : Type 0} → (X → Write) → Option X → List Write → List Write
 written f None ws = ws
 written f (Some x) ws = f x ∷ ws
 
--- p63 is written under the old rename base.
+-- p63 is written under the old rename base
 abbrev pub turn_writes : Turn → FrameShape → List Write
 turn_writes t f =
     written SetLc t.lc (written SetEc t.ec (written (SetPredicate (predicate_index f 63)) t.p63

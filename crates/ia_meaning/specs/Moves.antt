@@ -28,12 +28,12 @@ abbrev pub fetched : Option Spot → ℕ → Memory → Outcome
 fetched (Some d) x m = falls (set_spot d (record { value = x; nat = false }) []) m
 fetched None x m = faults OutOfFrame m
 
--- The number whose bits, from the n-th on, are these.
+-- the number whose bits, from the n-th on, are these
 abbrev pub word_from : ℕ → List Bool → ℕ
 word_from n [] = 0
 word_from n (b ∷ bs) = (if b then 2 ^ n else 0) + word_from (suc n) bs
 
--- The predicates as a word: bit n is that of place n.
+-- the predicates as a word: bit n is that of place n
 unfoldable pub predicate_word : List Bool → ℕ
 predicate_word bs = word_from 0 bs
 
@@ -43,7 +43,7 @@ application r Pfs = r.pfs
 application r Lc = r.lc
 application r Ec = r.ec
 
--- What is copied in a bundle.
+-- what is copied in a bundle
 abbrev pub source_value : ℕ → Registers → FetchSource → ℕ
 source_value bundle r (source.Branch b) = get_or r.branches b 0
 source_value bundle r (source.Application ar) = application r ar
@@ -71,18 +71,18 @@ abbrev pub test_skipped : CmpKind → Option ℕ → Option ℕ → Memory → O
 test_skipped Unc p q m = falls (set_predicate p false (set_predicate q false [])) m
 test_skipped _ p q m = falls [] m
 
--- The mask has the place: its own bit below 16, and bit 16 from there on.
+-- the mask has the place: its own bit below 16, and bit 16 from there on
 abbrev pub is_masked : ℕ → ℕ → Bool
 is_masked mask n = if nat_lt n 16 then bit mask n else bit mask 16
 
--- The writes of those of the predicates from the n-th on, as many as the first number says, that the mask has.
+-- the writes of so many places, from the n-th on, that the mask has
 abbrev pub masked_writes : ℕ → ℕ → ℕ → ℕ → List Write
 masked_writes zero n mask x = []
 masked_writes (suc left) n mask x =
     if is_masked mask n then SetPredicate n (bit x n) ∷ masked_writes left (suc n) mask x
     else masked_writes left (suc n) mask x
 
--- Places 1 to 63.
+-- places 1 to 63
 unfoldable pub predicate_writes : ℕ → ℕ → List Write
 predicate_writes mask x = masked_writes 63 1 mask x
 
@@ -94,11 +94,11 @@ abbrev pub to_branch : ℕ → Option Cell → Memory → Outcome
 to_branch b (Some a) m = if a.nat then faults NatConsumed m else falls (SetBranch b a.value ∷ []) m
 to_branch b None m = faults OutOfFrame m
 
--- Bits 51:38 and 61:58 are zero.
+-- bits 51:38 and 61:58 are zero
 unfoldable pub has_reserved_zeros : ℕ → Bool
 has_reserved_zeros x = ((x / 2 ^ 38) % 2 ^ 14 == 0) && ((x / 2 ^ 58) % 2 ^ 4 == 0)
 
--- EC keeps the low six bits.
+-- EC keeps the low six bits
 abbrev pub application_written : Ar → ℕ → Memory → Outcome
 application_written Unat x m = falls (SetUnat x ∷ []) m
 application_written Pfs x m = if has_reserved_zeros x then falls (SetPfs x ∷ []) m else faults ReservedField m

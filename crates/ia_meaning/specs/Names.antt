@@ -15,11 +15,11 @@ is_stacked r = nat_le 32 r
 abbrev pub is_rotating : ℕ → Bool
 is_rotating p = nat_le 16 p
 
--- The number in the frame of register 32 + k, behind rotation.
+-- the number in the frame of register 32 + k, behind rotation
 unfoldable pub frame_index : FrameShape → ℕ → ℕ
 frame_index f k = if nat_lt k (8 * f.sor) then (k + f.rrbs.gr) % (8 * f.sor) else k
 
--- Where register r stands; none outside the frame.
+-- where register r stands; none outside the frame
 unfoldable pub spot : FrameShape → ℕ → Option Spot
 spot f r =
     if is_stacked r then (if nat_lt (r - 32) f.sof then Some (Stacked (f.base + frame_index f (r - 32))) else None)
@@ -30,27 +30,27 @@ cell_at r None = None
 cell_at r (Some (Static n)) = Some (get_or r.statics n zero_cell)
 cell_at r (Some (Stacked n)) = Some (get_or r.cells n zero_cell)
 
--- What the register holds; r0 holds 0.
+-- what the register holds; r0 holds 0
 unfoldable pub look : Registers → ℕ → Option Cell
 look r zero = Some zero_cell
 look r (suc n) = cell_at r (spot r.frame (suc n))
 
--- A write of a register, before other writes; r0 is never written.
+-- a write of a register, before other writes; r0 is never written
 abbrev pub set_spot : Spot → Cell → List Write → List Write
 set_spot (Static zero) c ws = ws
 set_spot (Static (suc n)) c ws = SetStatic (suc n) c ∷ ws
 set_spot (Stacked n) c ws = SetCell n c ∷ ws
 
--- The number of predicate p behind rotation.
+-- the number of predicate p behind rotation
 unfoldable pub predicate_index : FrameShape → ℕ → ℕ
 predicate_index f p = if is_rotating p then 16 + (p - 16 + f.rrbs.pr) % 48 else p
 
--- Whether the predicate is 1; p0 is.
+-- whether the predicate is 1; p0 is
 unfoldable pub holds : Registers → ℕ → Bool
 holds r zero = true
 holds r (suc p) = get_or r.predicates (predicate_index r.frame (suc p)) false
 
--- The number that a write of the predicate goes to; those of p0 go nowhere.
+-- the number that a write of the predicate goes to; those of p0 go nowhere
 unfoldable pub predicate_spot : FrameShape → ℕ → Option ℕ
 predicate_spot f zero = None
 predicate_spot f (suc p) = Some (predicate_index f (suc p))

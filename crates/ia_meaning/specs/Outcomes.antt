@@ -14,22 +14,22 @@ pub record Outcome : Type 0 where
   pub spills : Option (ℕ × Bool)
   pub next : Next
 
--- The slot writes and falls through.
+-- it writes and falls through
 abbrev pub falls : List Write → Memory → Outcome
 falls ws m = record { writes = ws; memory = m; spills = None; next = Falls }
 
--- The slot writes and takes a branch to a bundle.
+-- it writes and takes a branch to a bundle
 abbrev pub goes : List Write → Memory → ℕ → Outcome
 goes ws m bundle = record { writes = ws; memory = m; spills = None; next = Goes bundle }
 
 abbrev pub breaks : ℕ → Memory → Outcome
 breaks imm m = record { writes = []; memory = m; spills = None; next = Breaks imm }
 
--- A fault, which writes nothing and leaves the memory as it was.
+-- a fault, which writes nothing and leaves the memory as it was
 abbrev pub faults : FaultKind → Memory → Outcome
 faults k m = record { writes = []; memory = m; spills = None; next = Faults k }
 
--- What a slot does where there may be a fault.
+-- what a slot does where there may be a fault
 abbrev pub faults_or : Option FaultKind → Memory → Outcome → Outcome
 faults_or None m o = o
 faults_or (Some k) m o = faults k m

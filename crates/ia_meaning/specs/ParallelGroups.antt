@@ -1,6 +1,6 @@
--- A group all at once (volume 1, chapter 3, instruction groups and instruction dependencies): every slot reads the registers of
--- the group's start, and the writes of registers come at the end, in some order. Views says what a slot sees besides. A group is
--- gathered first, and then its writes are made.
+-- A group all at once: every slot reads the registers of the group's start, but for what its view has besides, and the
+-- writes of registers come at the end, in some order (volume 1, chapter 3, instruction groups and instruction
+-- dependencies). A group is gathered first, and then its writes are made.
 use Rattle.std.specs.Prelude.{ℕ, zero, suc, ◌-◌, Bool, true, false, ◌&&◌, if◌then◌else◌, List, [], ◌∷◌, ◌++◌, get_or, Option, Some, None}
 use Rattle.ia_insn.specs.declared.insn.Insn.{Insn}
 use Rattle.ia_program.specs.declared.limits.TheConstants.{RUN_LIMIT}
@@ -37,25 +37,25 @@ pub record Gathered : Type 0 where
   pub unat : ℕ
   pub place : Place
 
--- A group that begins.
+-- a group that begins
 abbrev pub gathered_from : State → Gathered
 gathered_from s = record { base = s.registers; frames = []; writes = []; memory = s.memory; unat = s.registers.unat; place = s.place }
 
--- The registers that all slots so far leave.
+-- the registers that all slots so far leave
 abbrev pub now_of : Gathered → Registers
 now_of g = apply g.writes g.base
 
--- What an instruction does, from the registers that it sees and from what goes from slot to slot.
+-- what an instruction does, from the registers that it sees and from what goes from slot to slot
 abbrev pub outcome_from : Program → Place → Insn → Registers → Memory → ℕ → Outcome
 outcome_from p place insn seen m unat =
     let o = effect (site p place.bundle) insn seen m unat in settled (next_of p.bundles place) m o.next o
 
--- What the group's next slot does; a place that the program doesn't have, which no run reaches, does nothing.
+-- what the group's next slot does; a place that the program doesn't have, which no run reaches, does nothing
 abbrev pub slot_outcome : Program → Gathered → Option Insn → Outcome
 slot_outcome p g None = falls [] g.memory
 slot_outcome p g (Some insn) = outcome_from p g.place insn (view insn (now_of g) g.base) g.memory g.unat
 
--- The write of a frame that comes first, and the others.
+-- the write of a frame that comes first, and the others
 abbrev pub frame_ahead : List Write → List Write
 frame_ahead (SetFrame cause f ∷ ws) = SetFrame cause f ∷ []
 frame_ahead ws = []
@@ -64,7 +64,7 @@ abbrev pub after_frame : List Write → List Write
 after_frame (SetFrame cause f ∷ ws) = ws
 after_frame ws = ws
 
--- UNAT after a spill.
+-- UNAT after a spill
 abbrev pub unat_after : Option (ℕ × Bool) → ℕ → ℕ
 unat_after None n = n
 unat_after (Some b) n = with_bit n b.0 b.1
@@ -97,11 +97,11 @@ pub record GatheredGroup : Type 0 where
   pub how : Option How
   pub end : Option End
 
--- A group that ends at its last place, which is one slot of it.
+-- a group that ends at its last place, which is one slot of it
 abbrev pub ends_with : Gathered → Place → How → Option End → GatheredGroup
 ends_with g last h e = record { all = g; last = last; slots = 1; how = Some h; end = e }
 
--- A group with one slot more at its front.
+-- with one slot more at its front
 abbrev pub one_more : GatheredGroup → GatheredGroup
 one_more rest = record rest { slots = suc rest.slots }
 
@@ -116,7 +116,7 @@ gathered_by p first g o (Goes bundle) rest = ends_with (gathers first g o (first
 gathered_by p first g o (Breaks imm) rest = ends_with g g.place how.Ends (Some (end.Break imm g.place))
 gathered_by p first g o (Faults kind) rest = ends_with g g.place how.Ends (Some (end.Fault kind g.place))
 
--- The rest of a group, of at most `most` slots. `begins` says whether the group begins there. One that isn't over by then has no
+-- The rest of a group, of at most so many slots, where the group begins there or not. One that isn't over by then has no
 -- ending.
 abbrev pub gathered_within : ℕ → Program → Bool → Gathered → GatheredGroup
 gathered_within zero p begins g = record { all = g; last = g.place; slots = 0; how = None; end = None }
@@ -149,10 +149,10 @@ made g ws = record {
 abbrev pub par_group : Program → List ℕ → State → Group
 par_group p code s = let g = gathered p s in made g (arranged code g.all.writes)
 
--- The code of the group with this number, from 1; a missing one is empty.
+-- the code of the group with this number, from 1; a missing one is empty
 abbrev pub code_of : List (List ℕ) → ℕ → List ℕ
 code_of codes number = get_or codes (number - 1) []
 
--- One run of at most n groups, each all at once with its code.
+-- One run of at most so many groups, each all at once with its code.
 abbrev pub par_run : Program → ℕ → List (List ℕ) → State → Run
 par_run p n codes s = run_from (λ number s. par_group p (code_of codes number) s) 1 n s

@@ -21,15 +21,15 @@ pub record Progress : Type 0 where
   pub slots : ℕ
   pub range : Rse
 
--- A run that begins.
+-- a run that begins
 abbrev pub begun : State → Progress
 begun s = record { state = s; end = None; groups = 0; first = s.place; slots = 0; range = zero_range }
 
--- Where no group is under way one begins.
+-- where no group is under way one begins
 abbrev pub opened : Progress → Progress
 opened m = if m.slots == 0 then record m { groups = m.groups + 1; first = m.state.place } else m
 
--- The slots of the group after one more, which may be its last.
+-- the slots of the group after one more, which may be its last
 abbrev pub slots_after : ℕ → Option How → ℕ
 slots_after slots None = slots + 1
 slots_after slots (Some how) = 0
@@ -54,7 +54,7 @@ abbrev pub rest_by : ℕ → Progress → Progress → Progress
 rest_by zero m rest = m
 rest_by (suc slots) m rest = rest
 
--- At most `most` steps further, until the group is over.
+-- At most so many steps further, until the group is over.
 abbrev pub to_group_end : ℕ → Program → Progress → Progress
 to_group_end zero p m = m
 to_group_end (suc most) p m = let next = advanced p m in rest_by next.slots next (to_group_end most p next)
@@ -63,16 +63,16 @@ to_group_end (suc most) p m = let next = advanced p m in rest_by next.slots next
 unfoldable pub group_further : Program → Progress → Progress
 group_further p m = to_group_end RUN_LIMIT p m
 
--- Up to n groups further: fewer where the run comes to an end.
+-- So many groups further, or up to an end.
 abbrev pub groups_further : ℕ → Program → Progress → Progress
 groups_further zero p m = m
 groups_further (suc n) p m = groups_further n p (group_further p m)
 
--- How a run ends that has come to this end, or that stands at this place without one.
+-- how a run ends that has come to this end, or that stands at this place without one
 abbrev pub end_or : Option End → Place → End
 end_or None place = Limit place
 end_or (Some e) place = e
 
--- How a run that stands so ends.
+-- how a run that stands so ends
 abbrev pub end_of : Progress → End
 end_of m = end_or m.end m.state.place

@@ -6,7 +6,7 @@ use Rattle.ia_meaning.specs.declared.state.Rse.{Rse}
 abbrev pub zero_range : Rse
 zero_range = record { low = 0; high = 0; spilled = 0; filled = 0 }
 
--- The first resident cell after a change to a frame that begins at `base` and ends at `high`.
+-- the first resident cell after a change to a frame at this base, with so many cells
 abbrev pub low_after : ℕ → ℕ → ℕ → ℕ
 low_after low base high = max (min low base) (high - 96)
 
@@ -17,7 +17,7 @@ range_by r low high = record { low = low; high = high; spilled = (r.spilled + (l
 abbrev pub range_after : Rse → ℕ × ℕ → Rse
 range_after r change = range_by r (low_after r.low change.0 change.1) change.1
 
--- The range after the frame changes, in order.
+-- the range after the frame changes, in order
 abbrev pub range_of : Rse → List (ℕ × ℕ) → Rse
 range_of r [] = r
 range_of r (change ∷ changes) = range_of (range_after r change) changes

@@ -33,8 +33,7 @@ StaysInside =
 abbrev pub SeqGroupEnds : Type 0
 SeqGroupEnds = (p : Program) (s : State) → IsProgram p → IsPlaceOf p.bundles s.place → IsSome (seq_group p s).how
 
--- A group all at once from a place of the program is over within its RUN_LIMIT slots, whether the program keeps the rules for
--- groups or not.
+-- Nor does it cut off a group all at once, whether the program keeps the rules for groups or not.
 abbrev pub ParGroupEnds : Type 0
 ParGroupEnds =
     (p : Program) (code : List ℕ) (s : State) → IsProgram p → IsPlaceOf p.bundles s.place
@@ -44,11 +43,11 @@ ParGroupEnds =
 abbrev pub BeginsUnderWay : Type 0
 BeginsUnderWay = (p : Program) (s : State) → IsProgram p → IsPlaceOf p.bundles s.place → IsUnderWay p (begun s)
 
--- A run under way stays under way, a step further.
+-- It stays so, a step further,
 abbrev pub AdvancesUnderWay : Type 0
 AdvancesUnderWay = (p : Program) (m : Progress) → IsProgram p → IsUnderWay p m → IsUnderWay p (advanced p m)
 
--- A run under way stays under way, n groups further.
+-- and so many groups further.
 abbrev pub GoesOnUnderWay : Type 0
 GoesOnUnderWay =
     (n : ℕ) (p : Program) (m : Progress) → IsProgram p → IsUnderWay p m → IsUnderWay p (groups_further n p m)
@@ -70,7 +69,7 @@ pub record HasRun (m : Progress) (run : Run) : Type 0 where
   pub groups : m.groups ≡ length run.events
   pub range : m.range ≡ range_of zero_range run.frames
 
--- A run under way, n groups after its beginning, has come to where the whole run of n groups leaves off.
+-- So many groups after its beginning, a run under way is the whole run of so many groups.
 abbrev pub ProgressIsRun : Type 0
 ProgressIsRun =
     (n : ℕ) (p : Program) (s : State) → IsProgram p → IsPlaceOf p.bundles s.place
@@ -81,8 +80,8 @@ abbrev pub event_by : Progress → Option How → GroupEvent → GroupEvent
 event_by m (Some how) rest = record { number = m.groups; first = m.first; last = m.state.place; slots = m.slots + 1; how = how }
 event_by m None rest = rest
 
--- The group under way, or the next one, as an event, after at most `most` steps further. One that isn't over by then counts as
--- one that falls.
+-- The group under way, or the next one, as an event, after at most so many steps further. One that isn't over by then
+-- counts as one that falls.
 abbrev pub event_to_end : ℕ → Program → Progress → GroupEvent
 event_to_end zero p m = record { number = m.groups; first = m.first; last = m.state.place; slots = m.slots; how = how.Falls }
 event_to_end (suc most) p m =
@@ -98,12 +97,12 @@ EventIsOfGroup =
     (p : Program) (m : Progress) → m.end ≡ None → m.slots ≡ 0
     → event_further p m ≡ event_of (m.groups + 1) m.state.place (seq_group p m.state)
 
--- The frame changes of a group from one slot on: those of the slot, and then those of the rest, where it doesn't end there.
+-- the frame changes of a group from one slot on: those of the slot, and then those of the rest, where it doesn't end there
 abbrev pub frames_by : Option How → (frames rest : List (ℕ × ℕ)) → List (ℕ × ℕ)
 frames_by (Some how) frames rest = frames
 frames_by None frames rest = frames ++ rest
 
--- The frame changes that the group under way, or the next one, makes in at most `most` steps further.
+-- The frame changes that the group under way, or the next one, makes in at most so many steps further.
 abbrev pub frames_to_group_end : ℕ → Program → Progress → List (ℕ × ℕ)
 frames_to_group_end zero p m = []
 frames_to_group_end (suc most) p m =
@@ -122,42 +121,42 @@ RestOfGroup =
     × (event_further p (advanced p m) ≡ event_further p m)
     × ((seq_step p m.state).frames ++ group_frames p (advanced p m) ≡ group_frames p m)
 
--- Nothing more after an end.
+-- nothing more after an end
 abbrev pub unless_ended : {X : Type 0} → Option End → List X → List X
 unless_ended (Some e) xs = []
 unless_ended None xs = xs
 
--- The events of the next n groups, or of fewer up to an end.
+-- The events of so many groups further, or up to an end.
 abbrev pub events_further : ℕ → Program → Progress → List GroupEvent
 events_further zero p m = []
 events_further (suc n) p m = unless_ended m.end (event_further p m ∷ events_further n p (group_further p m))
 
--- The events of a run from its beginning are those of the whole run.
+-- Those of a run from its beginning are those of the whole run.
 abbrev pub EventsAreOfRun : Type 0
 EventsAreOfRun =
     (n : ℕ) (p : Program) (s : State) → IsProgram p → IsPlaceOf p.bundles s.place
     → events_further n p (begun s) ≡ (seq_run p n s).events
 
--- The frame changes of the next n groups, or of fewer up to an end.
+-- The frame changes of so many groups further, or up to an end.
 abbrev pub frames_further : ℕ → Program → Progress → List (ℕ × ℕ)
 frames_further zero p m = []
 frames_further (suc n) p m = unless_ended m.end (group_frames p m ++ frames_further n p (group_further p m))
 
--- The frame changes of a run from its beginning are those of the whole run.
+-- Those of a run from its beginning are those of the whole run.
 abbrev pub FramesAreOfRun : Type 0
 FramesAreOfRun =
     (n : ℕ) (p : Program) (s : State) → IsProgram p → IsPlaceOf p.bundles s.place
     → frames_further n p (begun s) ≡ (seq_run p n s).frames
 
--- What is printed of a whole run.
+-- what is printed of a whole run
 abbrev pub run_text : Run → List ℕ
 run_text run = state_text run.end (length run.events) (range_of zero_range run.frames) run.state
 
--- What is printed of a run under way.
+-- what is printed of a run under way
 abbrev pub progress_text : Progress → List ℕ
 progress_text m = state_text (end_of m) m.groups m.range m.state
 
--- A run under way, from its beginning, prints the same as the whole run.
+-- Both print the same.
 abbrev pub ProgressTextIsRunText : Type 0
 ProgressTextIsRunText =
     (n : ℕ) (p : Program) (s : State) → IsProgram p → IsPlaceOf p.bundles s.place

@@ -9,7 +9,7 @@ use Rattle.ia_program.specs.Bundles.{Bundle, last_slot}
 use Rattle.ia_program.specs.Places.{IsPlaceOf, IsBefore, IsNext, IsStopped}
 use Rattle.ia_meaning.specs.Landings.{is_one_of}
 
--- The first place of a bundle.
+-- the first place of a bundle
 abbrev pub first_of : ℕ → Place
 first_of bundle = record { bundle = bundle; slot = 0 }
 
@@ -19,7 +19,7 @@ next_in (Some b) count place =
     if nat_lt place.slot (last_slot b.slots) then Some (record { bundle = place.bundle; slot = place.slot + 1 })
     else if nat_lt (place.bundle + 1) count then Some (first_of (place.bundle + 1)) else None
 
--- The next place, where there is one.
+-- the next place, where there is one
 unfoldable pub next_of : List Bundle → Place → Option Place
 next_of bundles place = next_in (slice_get bundles place.bundle) (length bundles) place
 
@@ -31,7 +31,7 @@ abbrev pub stopped_in : Option Bundle → ℕ → Bool
 stopped_in None slot = false
 stopped_in (Some b) slot = stops_after b.template b.slots slot
 
--- Whether a stop follows the place.
+-- whether a stop follows the place
 unfoldable pub is_stopped : List Bundle → Place → Bool
 is_stopped bundles place = stopped_in (slice_get bundles place.bundle) place.slot
 

@@ -14,7 +14,7 @@ use Rattle.ia_meaning.specs.declared.state.Spot.{Spot}
 use Rattle.ia_meaning.specs.declared.state.Spot.TheVariants.{Static, Stacked}
 use Rattle.ia_meaning.specs.declared.state.AlatEntry.{AlatEntry}
 
--- 0 without NaT.
+-- 0 without NaT
 abbrev pub zero_cell : Cell
 zero_cell = record { value = 0; nat = false }
 
@@ -37,12 +37,12 @@ pub record Registers : Type 0 where
   pub lc : ℕ
   pub ec : ℕ
 
--- What goes from slot to slot: the data bytes, and the entries of the ALAT, oldest first.
+-- what goes from slot to slot: the data bytes, and the entries of the ALAT, oldest first
 pub record Memory : Type 0 where
   pub bytes : List ℕ
   pub alat : List AlatEntry
 
--- A state: registers, memory, and the place of the next slot.
+-- with the place of the next slot
 pub record State : Type 0 where
   pub registers : Registers
   pub memory : Memory
@@ -60,11 +60,11 @@ zero_state p = record {
   place = record { bundle = 0; slot = 0 };
 }
 
--- Bits 51:38 and 61:58 of a previous function state are zero.
+-- bits 51:38 and 61:58 of a previous function state are zero
 abbrev pub HasReservedZeros : ℕ → Type 0
 HasReservedZeros pfs = ((pfs / 2 ^ 38) % 2 ^ 14 ≡ 0) × ((pfs / 2 ^ 58) % 2 ^ 4 ≡ 0)
 
--- 64 bits.
+-- 64 bits
 abbrev pub IsWord : ℕ → Type 0
 IsWord n = n < 2 ^ 64
 
@@ -74,7 +74,7 @@ AreWords = All IsWord
 abbrev pub AreCells : List Cell → Type 0
 AreCells = All (λ c. IsWord c.value)
 
--- The frame's sizes and bases.
+-- the frame's sizes and bases
 pub record IsFrame (f : FrameShape) : Type 0 where
   pub size : f.sof ≤ 96
   pub locals : f.sol ≤ f.sof
@@ -105,7 +105,7 @@ abbrev pub IsKey : Spot → Type 0
 IsKey (Static n) = (1 ≤ n) × (n ≤ 31)
 IsKey (Stacked n) = n < STACK_LIMIT
 
--- An entry of the ALAT where there are `count` bytes of data: its key, and an access that lies within them.
+-- An entry of an access to so many bytes of data.
 pub record IsAlatEntry (count : ℕ) (e : AlatEntry) : Type 0 where
   pub key : IsKey e.key
   pub size : IsAccessSize e.size

@@ -20,7 +20,7 @@ use Rattle.ia_meaning.specs.Loads.{loaded}
 abbrev pub line : List ℕ → List ℕ
 line text = text ++ 10 ∷ []
 
--- A number as 16 hexadecimal digits.
+-- a number as 16 hexadecimal digits
 unfoldable pub word_text : ℕ → List ℕ
 word_text n = replicate (16 - length (digits 16 false n)) 48 ++ digits 16 false n
 
@@ -38,12 +38,12 @@ abbrev pub range_text : Rse → List ℕ
 range_text r =
     codes "rse " ++ decimal r.low ++ codes " " ++ decimal r.high ++ codes " " ++ decimal r.spilled ++ codes " " ++ decimal r.filled
 
--- The numbers from n up, as many as the second number says.
+-- the first number and so many after it
 abbrev pub count_up : ℕ → ℕ → List ℕ
 count_up n zero = []
 count_up n (suc more) = n ∷ count_up (suc n) more
 
--- A register that is 0 without NaT isn't printed.
+-- a register that is 0 without NaT isn't printed
 abbrev pub cell_line : List ℕ → Option Cell → List ℕ
 cell_line name None = []
 cell_line name (Some c) =
@@ -53,11 +53,11 @@ cell_line name (Some c) =
 abbrev pub gr_line : Registers → ℕ → List ℕ
 gr_line r n = cell_line (gr_text n) (look r n)
 
--- r1 to r31, and the registers of the frame by name.
+-- r1 to r31, and the registers of the frame by name
 abbrev pub gr_lines : Registers → List ℕ
 gr_lines r = flat_map (gr_line r) (count_up 1 (31 + r.frame.sof))
 
--- A number that is 0 isn't printed.
+-- a number that is 0 isn't printed
 abbrev pub word_line : List ℕ → ℕ → List ℕ
 word_line name n = if n == 0 then [] else line (name ++ codes " " ++ word_text n)
 
@@ -71,15 +71,15 @@ abbrev pub application_lines : Registers → List ℕ
 application_lines r =
     word_line (codes "ar.unat") r.unat ++ word_line (codes "ar.pfs") r.pfs ++ word_line (codes "ar.lc") r.lc ++ word_line (codes "ar.ec") r.ec
 
--- The n-th word of the data.
+-- the n-th word of the data
 abbrev pub data_line : List ℕ → ℕ → List ℕ
 data_line bytes n = word_line (codes "m " ++ word_text (data_base + 8 * n)) (loaded bytes (data_base + 8 * n) 8)
 
--- The lines of the words of the data that aren't 0.
+-- each word of the data that isn't 0
 abbrev pub data_lines : List ℕ → List ℕ
 data_lines bytes = flat_map (data_line bytes) (count_up 0 (length bytes / 8))
 
--- A register's place: `rN` of a static one, and `sN` of the cell N.
+-- a register's place: `rN` of a static one, and `sN` of the cell N
 abbrev pub key_text : Spot → List ℕ
 key_text (Static n) = gr_text n
 key_text (Stacked n) = codes "s" ++ decimal n
@@ -99,6 +99,6 @@ parts_text end groups range r m =
     ++ br_lines r ++ application_lines r
     ++ data_lines m.bytes ++ entry_lines m.alat
 
--- The printed state: its end, its number of groups and its parts. The place of the next slot isn't printed.
+-- that of a state, whose place isn't printed
 abbrev pub state_text : End → ℕ → Rse → State → List ℕ
 state_text end groups range s = parts_text end groups range s.registers s.memory

@@ -24,22 +24,22 @@ abbrev pub settled : Option Place → Memory → Next → Outcome → Outcome
 settled None m Falls o = faults FellOff m
 settled next m way o = o
 
--- What the instruction at a place does, by the state itself.
+-- what the instruction at a place does, by the state itself
 abbrev pub outcome_of : Program → State → Insn → Outcome
 outcome_of p s insn =
     let o = effect (site p s.place.bundle) insn s.registers s.memory s.registers.unat
     in settled (next_of p.bundles s.place) s.memory o.next o
 
--- The number with this bit as given.
+-- the number with this bit as given
 abbrev pub with_bit : ℕ → ℕ → Bool → ℕ
 with_bit n k b = n % 2 ^ k + (if b then 2 ^ k else 0) + 2 ^ (k + 1) * (n / 2 ^ (k + 1))
 
--- UNAT after a spill.
+-- UNAT after a spill
 abbrev pub spilled : Option (ℕ × Bool) → Registers → Registers
 spilled None r = r
 spilled (Some b) r = record r { unat = with_bit r.unat b.0 b.1 }
 
--- The spill comes first, then the writes in order.
+-- the spill comes first, then the writes in order
 abbrev pub registers_after : Outcome → Registers → Registers
 registers_after o r = apply o.writes (spilled o.spills r)
 
@@ -51,11 +51,11 @@ pub record Step : Type 0 where
   pub end : Option End
   pub frames : List (ℕ × ℕ)
 
--- The group goes on, or ends at a stop.
+-- the group goes on, or ends at a stop
 abbrev pub how_falling : Bool → Option How
 how_falling stopped = if stopped then Some how.Falls else None
 
--- The place after a slot that falls through; where there is none it ended the run.
+-- the place after a slot that falls through; where there is none it ended the run
 abbrev pub place_after : Place → Option Place → Place
 place_after place None = place
 place_after place (Some next) = next
@@ -94,7 +94,7 @@ pub record Group : Type 0 where
   pub end : Option End
   pub frames : List (ℕ × ℕ)
 
--- The group so far, and the rest of it.
+-- the group so far, and the rest of it
 abbrev pub and_then : Step → Group → Group
 and_then step rest = record rest { slots = suc rest.slots; frames = step.frames ++ rest.frames }
 
@@ -102,7 +102,7 @@ abbrev pub group_by : Program → State → Step → Option How → Group → Gr
 group_by p s step (Some how) rest = record { state = step.state; last = s.place; slots = 1; how = Some how; end = step.end; frames = step.frames }
 group_by p s step None rest = and_then step rest
 
--- A group of at most `most` slots. One that isn't over by then has no ending.
+-- A group of at most so many slots. One that isn't over by then has no ending.
 abbrev pub group_within : ℕ → Program → State → Group
 group_within zero p s = record { state = s; last = s.place; slots = 0; how = None; end = None; frames = [] }
 group_within (suc most) p s =
@@ -131,13 +131,13 @@ abbrev pub run_by : Group → GroupEvent → Option End → Run → Run
 run_by group event (Some e) rest = record { state = group.state; end = e; events = event ∷ []; frames = group.frames }
 run_by group event None rest = record rest { events = event ∷ rest.events; frames = group.frames ++ rest.frames }
 
--- A run of n groups, or of fewer up to an end; the first group has this number. What a group leaves may depend on its number.
+-- So many groups, the first with this number, or fewer up to an end. What a group leaves may depend on its number.
 abbrev pub run_from : (ℕ → State → Group) → ℕ → ℕ → State → Run
 run_from group number zero s = record { state = s; end = end.Limit s.place; events = []; frames = [] }
 run_from group number (suc n) s =
     let g = group number s
     in run_by g (event_of number s.place g) g.end (run_from group (suc number) n g.state)
 
--- One sequential run of at most n groups.
+-- One sequential run of at most so many groups.
 abbrev pub seq_run : Program → ℕ → State → Run
 seq_run p n s = run_from (λ number s. seq_group p s) 1 n s

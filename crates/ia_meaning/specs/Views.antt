@@ -1,6 +1,6 @@
--- What a slot reads where its group runs all at once (volume 1, chapter 3, instruction dependencies): the registers of the
--- group's start. Three exceptions let a branch see what earlier slots of the group wrote. A fourth, on `alloc`, is made by the
--- start itself (ParallelGroups).
+-- What a slot reads where its group runs all at once: the registers of the group's start, and of what earlier slots of the
+-- group wrote no more than three exceptions let a branch see (volume 1, chapter 3, instruction dependencies). A fourth, on
+-- `alloc`, is made by the start itself (ParallelGroups).
 use Rattle.std.specs.Prelude.{ℕ, suc, Bool, true, false, ◌==◌, ◌&&◌, ◌||◌, nat_le, nat_lt, if◌then◌else◌, List, [], ◌∷◌}
 use Rattle.ia_insn.specs.declared.insn.Insn.{Insn}
 use Rattle.ia_meaning.specs.declared.state.FrameShape.{FrameShape}
@@ -20,7 +20,7 @@ sees_guard insn frame place = is_branch (insn_action insn) && (place == predicat
 abbrev pub sees_static : Action → ℕ → Bool
 sees_static action place = is_indirect action && (nat_le 1 place && nat_lt place 16)
 
--- The predicates that a slot sees as earlier slots wrote them.
+-- the predicates that a slot sees as earlier slots wrote them
 abbrev pub sees_predicate : Insn → FrameShape → ℕ → Bool
 sees_predicate insn frame place = sees_guard insn frame place || sees_static (insn_action insn) place
 
@@ -39,7 +39,7 @@ abbrev pub sees_pfs : Action → Bool
 sees_pfs (Return b2) = true
 sees_pfs f = false
 
--- The list with the items of another one at the places, from the n-th on, that are seen.
+-- the list with the items of another one at the places, from the n-th on, that are seen
 abbrev pub seen_in : {X : Type 0} → (ℕ → Bool) → ℕ → List X → List X → List X
 seen_in sees n [] now = []
 seen_in sees n (x ∷ base) [] = x ∷ base

@@ -3,19 +3,19 @@ use Rattle.std.specs.Prelude.{◌≡◌, ℕ, zero, suc, ◌%◌, List, [], ◌�
 use Rattle.std.specs.List.Sorted.{IsPermutation}
 use Rattle.ia_meaning.specs.declared.write.Write.{Write}
 
--- The item at n of x and the items after it, the last one where there are fewer.
+-- the item at n of x and the items after it, the last one where there are fewer
 abbrev pub item_at : {X : Type 0} → X → List X → ℕ → X
 item_at x [] n = x
 item_at x (y ∷ ys) zero = x
 item_at x (y ∷ ys) (suc n) = item_at y ys n
 
--- The others.
+-- the others
 abbrev pub others : {X : Type 0} → X → List X → ℕ → List X
 others x [] n = []
 others x (y ∷ ys) zero = y ∷ ys
 others x (y ∷ ys) (suc n) = x ∷ others y ys n
 
--- A code's first number; a missing one counts as 0.
+-- a code's first number; a missing one counts as 0
 abbrev pub head_of : List ℕ → ℕ
 head_of [] = 0
 head_of (c ∷ code) = c
@@ -24,7 +24,7 @@ abbrev pub tail_of : List ℕ → List ℕ
 tail_of [] = []
 tail_of (c ∷ code) = code
 
--- The list with its first n items chosen by a code.
+-- the order under a code of the first so many items
 abbrev pub arranged_within : {X : Type 0} → ℕ → List ℕ → List X → List X
 arranged_within zero code xs = xs
 arranged_within (suc n) code [] = []

@@ -6,7 +6,7 @@ use Rattle.ia_meaning.specs.declared.write.Write.TheVariants.{SetStatic, SetCell
 use Rattle.ia_meaning.specs.declared.write.FrameCause.TheVariants.{Resized}
 use Rattle.ia_meaning.specs.State.{zero_cell, Registers}
 
--- A list of n cells: the given ones, cut at the end or filled up with zeros.
+-- so many cells: those of the list, cut, or filled up with zeros
 abbrev pub resized : ℕ → List Cell → List Cell
 resized zero cells = []
 resized (suc n) [] = zero_cell ∷ resized n []
@@ -25,12 +25,12 @@ put (SetLc v) r = record r { lc = v }
 put (SetEc v) r = record r { ec = v }
 put (SetFrame cause f) r = record r { frame = f; cells = resized (f.base + f.sof) r.cells }
 
--- The writes, in order.
+-- the writes, in order
 abbrev pub apply : List Write → Registers → Registers
 apply [] r = r
 apply (w ∷ ws) r = apply ws (put w r)
 
--- The base of each frame that a write resizes, and the number of cells with it.
+-- the base of each frame that a write resizes, and the number of cells with it
 abbrev pub frame_changes : List Write → List (ℕ × ℕ)
 frame_changes [] = []
 frame_changes (SetFrame Resized f ∷ ws) = (f.base, f.base + f.sof) ∷ frame_changes ws

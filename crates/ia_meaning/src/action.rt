@@ -28,7 +28,7 @@ pub enum FetchSource {
 /// Where an [`Action::Call`] goes.
 #[derive(Clone, Copy)]
 pub enum CallTarget {
-    /// A number of bundles from the instruction's own.
+    /// So many bundles from its own.
     Direct(i32),
     /// The address in a branch register.
     Indirect(Br),
@@ -72,7 +72,7 @@ pub enum Condition {
         four_bytes: bool,
         rel: Rel,
     },
-    /// The relation of an immediate and the second register or, where `four_bytes` is set, of their low four bytes.
+    /// The same of an immediate and the second.
     CompareImmediate {
         four_bytes: bool,
         rel: Rel,

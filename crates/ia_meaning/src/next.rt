@@ -7,17 +7,17 @@ use ia_program::FaultKind;
 pub enum Next {
     /// The slot falls through to the next place.
     Falls,
-    /// The slot takes a branch to slot 0 of a bundle.
+    /// It takes a branch to slot 0 of a bundle.
     Goes {
         /// The bundle.
         bundle: u32,
     },
-    /// The slot ends the run with this number.
+    /// It ends the run with this number.
     Breaks {
         /// The number.
         imm: u64,
     },
-    /// The slot ends the run with a fault.
+    /// It ends the run with a fault.
     Faults {
         /// The fault.
         kind: FaultKind,

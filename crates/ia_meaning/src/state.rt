@@ -12,11 +12,11 @@ pub struct Cell {
 /// The register rename bases, rrb in the manual (volume 1, chapter 4, register stack).
 #[derive(Clone, Copy, Debug, Default, PartialEq, Eq)]
 pub struct Rrbs {
-    /// The base of the general registers, below 8 times the frame's sor, or 0.
+    /// That of the general registers, below 8 times the frame's sor, or 0.
     pub gr: u8,
-    /// The base of the floating-point registers, below 96.
+    /// That of the floating-point registers, below 96.
     pub fr: u8,
-    /// The base of the predicates, below 48.
+    /// That of the predicates, below 48.
     pub pr: u8,
 }
 

@@ -22,7 +22,7 @@ chosen : (P : Insn → Type 0) (here : Bool) (a : Insn) (other : Option Insn) (i
 chosen P true a other i p q e = let same : a ≡ i = cc in subst P same p
 chosen P false a other i p q e = q e
 
--- What each instruction of the slots has, the instruction of one slot has.
+-- so has the instruction of a slot
 at_slot : (P : Insn → Type 0) (slots : Slots) (n : ℕ) (i : Insn) → EachSlot P slots → slot_insn slots n ≡ Some i → P i
 at_slot P (Three a b c) n i h e =
     chosen P (n == 0) a _ i h.0 (λ e. chosen P (n == 1) b _ i h.1 (λ e. chosen P (n == 2) c None i h.2 (λ e. absurd (cc)) e) e) e
@@ -33,7 +33,7 @@ at_slot P (Long first long) n i h e =
 pub unit_listed : (i : Insn) (u : ExecutionUnit) (slot : ℕ) → FitsUnit i u slot → IsListed i
 unit_listed i u slot h = grind arith
 
--- Each instruction that fits its slot is listed.
+-- so is each that fits its slot
 slots_listed : (units : List ExecutionUnit) (slots : Slots) → FitUnits units slots → EachSlot IsListed slots
 slots_listed (u ∷ v ∷ w ∷ []) (Three a b c) h =
     (unit_listed a u 0 h.0.kind, unit_listed b v 1 h.1.kind, unit_listed c w 2 h.2.kind)

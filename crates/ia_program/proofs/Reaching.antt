@@ -106,7 +106,7 @@ fewer_left bundles place (Some next) is follows = smaller follows.after
     smaller (inl less) = let s = slot_small bundles place is in let b = bundle_small bundles next follows.is in omega arith
     smaller (inr less) = let s = slot_small bundles next follows.is in omega (arith, less.0, less.1)
 
--- As many slots of the run as `run` says stand before the place.
+-- so many slots of the run stand before a place
 pub record IsRunOf (bundles : List Bundle) (place : Place) (run : ℕ) : Type 0 where
   pub slots : List Place
   pub stand : StandBefore bundles slots place

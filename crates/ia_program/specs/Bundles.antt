@@ -20,11 +20,11 @@ pub record Bundle : Type 0 where
   pub template : ℕ
   pub slots : Slots
 
--- The bundle's instructions fit its template.
+-- the bundle's instructions fit its template
 abbrev pub IsBundle : Bundle → Type 0
 IsBundle b = FitUnits (units_of b.template) b.slots
 
--- Each of the bundles has instructions that fit its template.
+-- each of them is one
 abbrev pub AreBundles : List Bundle → Type 0
 AreBundles bundles = (n : ℕ) → IfSome (slice_get bundles n) IsBundle
 
@@ -34,7 +34,7 @@ slot_insn (Three a b c) slot =
     if slot == 0 then Some a else if slot == 1 then Some b else if slot == 2 then Some c else None
 slot_insn (Long first long) slot = if slot == 0 then Some first else if slot == 1 then Some long else None
 
--- The last slot that has an instruction.
+-- the last slot that has an instruction
 abbrev pub last_slot : Slots → ℕ
 last_slot (Three a b c) = 2
 last_slot (Long first long) = 1

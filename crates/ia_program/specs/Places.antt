@@ -4,15 +4,15 @@ use Rattle.ia_insn.specs.declared.insn.Insn.{Insn}
 use Rattle.ia_program.specs.declared.place.Place.{Place}
 use Rattle.ia_program.specs.Bundles.{Bundle, slot_insn, IsStopAfter}
 
--- Places are in order of the bundle, then of the slot.
+-- places are in order of the bundle, then of the slot
 abbrev pub IsBefore : Place → Place → Type 0
 IsBefore p q = (p.bundle < q.bundle) ⊎ ((p.bundle ≡ q.bundle) × (p.slot < q.slot))
 
--- A place as a number: a bundle's three slots follow those of the bundle before it.
+-- a place as a number: a bundle's three slots follow those of the bundle before it
 abbrev pub place_number : Place → ℕ
 place_number place = 3 * place.bundle + place.slot
 
--- The place with this number.
+-- the place with this number
 abbrev pub place_at : ℕ → Place
 place_at number = record { bundle = number / 3; slot = number % 3 }
 
@@ -24,29 +24,29 @@ abbrev pub bundle_insn : Option Bundle → ℕ → Option Insn
 bundle_insn None slot = None
 bundle_insn (Some b) slot = slot_insn b.slots slot
 
--- The instruction at a place.
+-- the instruction at a place
 unfoldable pub insn_at : List Bundle → Place → Option Insn
 insn_at bundles place = bundle_insn (slice_get bundles place.bundle) place.slot
 
--- A place of the bundles: one that has an instruction.
+-- a place of the bundles: one that has an instruction
 abbrev pub IsPlaceOf : List Bundle → Place → Type 0
 IsPlaceOf bundles place = IsSome (insn_at bundles place)
 
--- The first place after another.
+-- the first place after another
 pub record IsNext (bundles : List Bundle) (place next : Place) : Type 0 where
   pub is : IsPlaceOf bundles next
   pub after : IsBefore place next
   pub first : (q : Place) → IsPlaceOf bundles q → IsBefore place q → IsBefore q next → ⊥
 
--- A stop follows the place.
+-- a stop follows the place
 abbrev pub IsStopped : List Bundle → Place → Type 0
 IsStopped bundles place = IsSomeAnd (slice_get bundles place.bundle) (λ b. IsStopAfter b.template b.slots place.slot)
 
--- Each place is a good one.
+-- each place is a good one
 abbrev pub EachPlace : List Bundle → (Place → Type 0) → Type 0
 EachPlace bundles Good = (place : Place) → IsPlaceOf bundles place → Good place
 
--- The first place that isn't a good one.
+-- the first place that isn't a good one
 pub record IsFirstBad (bundles : List Bundle) (Good : Place → Type 0) (place : Place) : Type 0 where
   pub is : IsPlaceOf bundles place
   pub bad : ¬ Good place

@@ -22,8 +22,8 @@ pub record Program : Type 0 where
   pub bytes : List ℕ
   pub relations : List Relation
 
--- At least one bundle; no more bundles, declared entries, data bytes and declared relations than their limits, and the
--- bytes a multiple of 8.
+-- at least one bundle; no more bundles, declared entries, data bytes and declared relations than their limits, and the
+-- bytes a multiple of 8
 pub record AreInRange (bundle_count entry_count byte_count relation_count : ℕ) : Type 0 where
   pub some : 1 ≤ bundle_count
   pub bundles : bundle_count ≤ BUNDLE_LIMIT
@@ -32,7 +32,7 @@ pub record AreInRange (bundle_count entry_count byte_count relation_count : ℕ)
   pub words : byte_count % 8 ≡ 0
   pub relations : relation_count ≤ RELATION_LIMIT
 
--- What the n-th entry is above: the one before it, and the first is above 0.
+-- what the n-th entry is above: the one before it, and the first is above 0
 abbrev pub floor : List ℕ → ℕ → ℕ
 floor entries zero = 0
 floor entries (suc n) = slice_index entries n
@@ -46,7 +46,7 @@ pub record IsEntryAt (count : ℕ) (entries : List ℕ) (n : ℕ) : Type 0 where
 abbrev pub AreEntries : ℕ → List ℕ → Type 0
 AreEntries count entries = (n : ℕ) → n < length entries → IsEntryAt count entries n
 
--- The first entry that isn't in range or doesn't rise.
+-- the first entry that isn't in range or doesn't rise
 pub record IsFirstMisplaced (count : ℕ) (entries : List ℕ) (n : ℕ) : Type 0 where
   pub inside : n < length entries
   pub misplaced : ¬ IsEntryAt count entries n
@@ -57,12 +57,12 @@ IsCall (BrCall b1 wh many clr disp) = ⊤
 IsCall (BrCallInd b1 b2 wh many clr) = ⊤
 IsCall op = ⊥
 
--- One of the instructions is a call.
+-- one of the instructions is a call
 abbrev pub HasCall : Slots → Type 0
 HasCall (Three a b c) = IsCall a.op ⊎ (IsCall b.op ⊎ IsCall c.op)
 HasCall (Long first long) = IsCall first.op ⊎ IsCall long.op
 
--- The bundle before the n-th holds a call, which comes back to the n-th.
+-- the bundle before the n-th holds a call, which comes back to the n-th
 abbrev pub IsAfterCall : List Bundle → ℕ → Type 0
 IsAfterCall bundles n = (1 ≤ n) × IsSomeAnd (slice_get bundles (n - 1)) (λ b. HasCall b.slots)
 
@@ -89,14 +89,14 @@ pub record IsDeclarable (bundles : List Bundle) (entries : List ℕ) (before rel
   pub apart : relation.p < relation.q
   pub static : relation.q ≤ 15
 
--- Below every relation that may be declared.
+-- below every relation that may be declared
 abbrev pub no_relation : Relation
 no_relation = record { bundle = 0; p = 0; q = 0 }
 
 abbrev pub relation_at : List Relation → ℕ → Relation
 relation_at relations n = slice_index_or relations n no_relation
 
--- What the n-th relation comes after: the one before it.
+-- what the n-th relation comes after: the one before it
 abbrev pub relation_before : List Relation → ℕ → Relation
 relation_before relations zero = no_relation
 relation_before relations (suc n) = relation_at relations n
@@ -109,23 +109,23 @@ IsRelationAt bundles entries relations n =
 abbrev pub AreRelations : List Bundle → List ℕ → List Relation → Type 0
 AreRelations bundles entries relations = (n : ℕ) → n < length relations → IsRelationAt bundles entries relations n
 
--- The first relation that doesn't rise, isn't of an entry, or isn't of two of p1 to p15 in order.
+-- the first relation that doesn't rise, isn't of an entry, or isn't of two of p1 to p15 in order
 pub record IsFirstMisdeclared (bundles : List Bundle) (entries : List ℕ) (relations : List Relation) (n : ℕ) : Type 0 where
   pub inside : n < length relations
   pub misdeclared : ¬ IsRelationAt bundles entries relations n
   pub first : (k : ℕ) → k < n → IsRelationAt bundles entries relations k
 
--- The first `count` relations are those of bundles below this one.
+-- So many relations, the first ones, are of bundles below this one.
 pub record IsCountBelow (relations : List Relation) (bundle count : ℕ) : Type 0 where
   pub bound : count ≤ length relations
   pub below : (k : ℕ) → k < count → (relation_at relations k).bundle < bundle
   pub others : (k : ℕ) → count ≤ k → k < length relations → bundle ≤ (relation_at relations k).bundle
 
--- The relations of a bundle, in order.
+-- the relations of a bundle, in order
 abbrev pub relations_at : List Relation → ℕ → List Relation
 relations_at relations bundle = filter (λ r. r.bundle == bundle) relations
 
--- Each of the numbers is a byte.
+-- each of them is a byte
 abbrev pub AreBytes : List ℕ → Type 0
 AreBytes bytes = (i : ℕ) → slice_index bytes i < 256
 

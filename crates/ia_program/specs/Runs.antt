@@ -8,7 +8,7 @@ use Rattle.ia_program.specs.declared.place.Place.{Place}
 use Rattle.ia_program.specs.Bundles.{Bundle}
 use Rattle.ia_program.specs.Places.{insn_at, IsPlaceOf, IsNext, IsStopped}
 
--- A branch that is taken wherever its qualifying predicate is 1, or a `break`.
+-- a branch that is taken wherever its qualifying predicate is 1, or a `break`
 abbrev pub IsLeaving : Op → Type 0
 IsLeaving (Br Cond wh many clr disp) = ⊤
 IsLeaving (BrCall b1 wh many clr disp) = ⊤

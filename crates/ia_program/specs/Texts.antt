@@ -4,11 +4,11 @@ use Rattle.ia_program.specs.declared.ending.FaultKind.{FaultKind}
 use Rattle.ia_program.specs.declared.ending.FaultKind.TheVariants as fault
 use Rattle.ia_program.specs.declared.place.Place.{Place}
 
--- The bundle, a dot and the slot, in decimal.
+-- the bundle, a dot and the slot, in decimal
 abbrev pub place_text : Place → List ℕ
 place_text place = decimal place.bundle ++ (46 ∷ decimal place.slot)
 
--- The name of a fault.
+-- the name of a fault
 abbrev pub fault_name : FaultKind → List ℕ
 fault_name fault.OutOfFrame = codes "OutOfFrame"
 fault_name fault.NatConsumed = codes "NatConsumed"

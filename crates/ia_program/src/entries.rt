@@ -9,8 +9,8 @@ use crate::limits::{BUNDLE_LIMIT, DATA_LIMIT, ENTRY_LIMIT, RELATION_LIMIT};
 use crate::places::bundle_at;
 use ia_insn::Op;
 
-/// Whether these may be the numbers of bundles, declared entries, bytes of data and declared relations of a program: at least one
-/// bundle, each number within its limit, and the bytes a multiple of 8.
+/// Whether there may be so many bundles, declared entries, bytes of data and declared relations in a
+/// program: at least one bundle, each within its limit, and the bytes a multiple of 8.
 pub fn are_in_range(bundles: usize, entries: usize, bytes: usize, relations: usize) -> bool
     ensures { IsTrue result ↔ AreInRange bundles entries bytes relations }
 {

@@ -78,13 +78,13 @@ impl Program {
         // The program is of these, and they are one.
         ensures found { IfOk result (λ p. (p ≡ record { bundles = bundles.items; entries = entries.items; bytes = memory.items; relations = [] }) × IsProgram p) }
 
-        // Where they are a program it is returned, so a fault comes only where they are none.
+        // Where they are a program it is answered, so a fault comes only where they are none.
         ensures only { let parts : Parts = record { bundles = bundles.items; entries = entries.items; bytes = memory.items; relations = [] } in IsProgram parts → result ≡ Ok parts }
 
         // The fault is the first one of these.
         ensures fault { IfErr result (HasProgramFault (record { bundles = bundles.items; entries = entries.items; bytes = memory.items; relations = [] })) }
 
-        // A fault that they have is returned, so they have no other.
+        // A fault that they have is answered, so they have no other.
         ensures only_fault { (fault : FaultOf) → HasProgramFault (record { bundles = bundles.items; entries = entries.items; bytes = memory.items; relations = [] }) fault → result ≡ Err fault }
     {
         let alloc = *bundles.allocator();
@@ -105,13 +105,13 @@ impl Program {
         // The program is of these, and they are one.
         ensures found { IfOk result (λ p. (p ≡ record { bundles = bundles.items; entries = entries.items; bytes = memory.items; relations = relations.items }) × IsProgram p) }
 
-        // Where they are a program it is returned, so a fault comes only where they are none.
+        // Where they are a program it is answered, so a fault comes only where they are none.
         ensures only { let parts : Parts = record { bundles = bundles.items; entries = entries.items; bytes = memory.items; relations = relations.items } in IsProgram parts → result ≡ Ok parts }
 
         // The fault is the first one of these.
         ensures fault { IfErr result (HasProgramFault (record { bundles = bundles.items; entries = entries.items; bytes = memory.items; relations = relations.items })) }
 
-        // A fault that they have is returned, so they have no other.
+        // A fault that they have is answered, so they have no other.
         ensures only_fault { (fault : FaultOf) → HasProgramFault (record { bundles = bundles.items; entries = entries.items; bytes = memory.items; relations = relations.items }) fault → result ≡ Err fault }
     {
         if !are_in_range(bundles.len(), entries.len(), memory.len(), relations.len()) {
@@ -123,7 +123,7 @@ impl Program {
         Program::of_checked(bundles, entries, memory, relations)
     }
 
-    /// The program of these, as [`Program::with_relations`] returns it, where the counts and the entries are
+    /// The program of these, as [`Program::with_relations`] answers it, where the counts and the entries are
     /// known to be right: they are not looked at again.
     ///
     /// # Errors

@@ -171,7 +171,7 @@ image_of one bytes are (long, (begins, (counts, (size, (entries, passed))))) = (
       relations = λ n less. let r = right n less in r.declared;
     }
 
--- Where every stage of bare bundles is passed, they are those of a program.
+-- and where every stage of bare bundles is passed, they are those of a program
 raw_of : codec.OneBundle → (bytes : List ℕ) → ArePassed (raw_stages bytes) → (p : Program) × RawSpells p bytes
 raw_of one bytes (counts, (whole, passed)) = (p, record { program = program; spelled = sound.spelled; no_entries = refl; no_data = refl; no_relations = refl })
   where

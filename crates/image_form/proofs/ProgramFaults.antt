@@ -87,7 +87,7 @@ first_wrong bundles entries relations bytes n (Some m) pad bad = elim (cases_lt 
   })
 ]
 
--- The first relation that may not be declared, or whose last two bytes aren't zero, is the first fault.
+-- which is the first fault, where a relation may not be declared
 pub relation_fault : (p : Program) (spelled bytes : List ℕ) (n : ℕ) (unpadded : Option ℕ) → AreChecked p → AreSpelled p.bundles spelled → MatchOption unpadded (ArePadded (length p.relations) bytes) (IsFirstUnpadded (length p.relations) bytes) → HasProgramFault p (program.Relation n) → IsFirstFault (bundle_stages spelled (relation_stage spelled p.entries p.relations bytes ∷ [])) (RelationFault (min (unwrap_or unpadded n) n))
 relation_fault p spelled bytes n unpadded right is pads fault =
     let last = last_fault p n right fault in

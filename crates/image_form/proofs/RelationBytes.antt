@@ -92,7 +92,7 @@ relations_in-written (r ∷ rs) small =
     let later : relations_in (length rs) (written_relations rs) ≡ rs = relations_in-written rs (λ k less. small (suc k) (omega arith)) in
     λ i. first i ∷ later i
 
--- The last two bytes of each relation that was written are zero.
+-- and the last two bytes of each are zero
 pub written_padded : (rs : List Relation) → ArePadded (length rs) (written_relations rs)
 written_padded [] n less = absurd (omega arith)
 written_padded (r ∷ rs) zero less = record { first = refl; second = refl }

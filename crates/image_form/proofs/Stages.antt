@@ -32,7 +32,7 @@ one_version Two Two bytes a b = refl
 one_version One Two bytes a b = absurd (let last : 49 ≡ 50 = ap (λ l. slice_index l 7) (sym a ∙ b) in omega arith)
 one_version Two One bytes a b = absurd (let last : 50 ≡ 49 = ap (λ l. slice_index l 7) (sym a ∙ b) in omega arith)
 
--- Where the head is right, its numbers are in range for the one version that the bytes begin as.
+-- so where the head is right, its numbers are in range for the one version
 pub counts_hold : (v : Version) (bytes : List ℕ) → HasHead v bytes → AreCounts bytes
 counts_hold v bytes h w begins = subst (λ (u : Version). AreCountsOf u bytes) (one_version v w bytes h.begins begins) h.counts
 

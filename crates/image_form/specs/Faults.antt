@@ -66,7 +66,7 @@ pub record IsRelationRight (bundles : List Bundle) (entries : List ℕ) (relatio
   pub declared : IsRelationAt bundles entries relations n
   pub padded : IsPadded bytes n
 
--- Each of these relations may be declared, and its last two bytes are zero.
+-- Each of them may be declared, and its last two bytes are zero.
 abbrev pub AreRelationsRight : List Bundle → List ℕ → List Relation → List ℕ → Type 0
 AreRelationsRight bundles entries relations bytes =
     (n : ℕ) → n < length relations → IsRelationRight bundles entries relations bytes n
@@ -115,7 +115,7 @@ raw_stages bytes =
 abbrev pub HasRawFault : List ℕ → ImageFault → Type 0
 HasRawFault bytes fault = IsFirstFault (raw_stages bytes) fault
 
--- The fault of an image that a fault of programs is.
+-- the same fault of an image
 abbrev pub image_fault : ProgramFault → ImageFault
 image_fault program.Counts = Counts
 image_fault (program.Entry n) = Entry n

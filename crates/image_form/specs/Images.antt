@@ -26,7 +26,7 @@ abbrev pub relation_limit : Version → ℕ
 relation_limit One = 0
 relation_limit Two = RELATION_LIMIT
 
--- An image of the version has room for this many bundles and relations.
+-- an image of the version has room for so many bundles and relations
 abbrev pub has_room : Version → ℕ → ℕ → Bool
 has_room v bundle_count relation_count = nat_le bundle_count (bundle_limit v) && nat_le relation_count (relation_limit v)
 

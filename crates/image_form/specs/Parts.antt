@@ -11,7 +11,7 @@ use Rattle.image_form.specs.Images.{has_room, Begins}
 abbrev pub number_at : List ℕ → ℕ → ℕ
 number_at bytes at = from_le_bytes w32 (take 4 (drop at bytes))
 
--- The first n numbers of four bytes, one after the other.
+-- so many numbers, one after the other
 abbrev pub numbers : ℕ → List ℕ → List ℕ
 numbers zero bytes = []
 numbers (suc n) bytes = number_at bytes 0 ∷ numbers n (drop 4 bytes)
@@ -21,7 +21,7 @@ abbrev pub relation_in : List ℕ → ℕ → Relation
 relation_in bytes at =
     record { bundle = number_at bytes at; p = slice_index bytes (at + 4); q = slice_index bytes (at + 5) }
 
--- The first n relations of eight bytes, one after the other.
+-- so many relations, one after the other
 abbrev pub relations_in : ℕ → List ℕ → List Relation
 relations_in zero bytes = []
 relations_in (suc n) bytes = relation_in bytes 0 ∷ relations_in n (drop 8 bytes)
@@ -31,11 +31,11 @@ pub record IsPadded (bytes : List ℕ) (n : ℕ) : Type 0 where
   pub first : slice_index bytes (8 * n + 6) ≡ 0
   pub second : slice_index bytes (8 * n + 7) ≡ 0
 
--- Each of the first `count` relations ends in two bytes that are zero.
+-- So are those of each of so many relations.
 abbrev pub ArePadded : ℕ → List ℕ → Type 0
 ArePadded count bytes = (n : ℕ) → n < count → IsPadded bytes n
 
--- The first of `count` relations whose last two bytes aren't zero.
+-- the first of so many relations whose last two bytes aren't zero
 pub record IsFirstUnpadded (count : ℕ) (bytes : List ℕ) (n : ℕ) : Type 0 where
   pub inside : n < count
   pub unpadded : ¬ IsPadded bytes n
@@ -110,7 +110,7 @@ pub record HasHead (v : Version) (bytes : List ℕ) : Type 0 where
   pub counts : AreCountsOf v bytes
   pub size : length bytes ≡ image_length bytes
 
--- The head that the bytes have, as it was read.
+-- That head, as it was read.
 pub record IsHeadOf (bytes : List ℕ) (head : Head) : Type 0 where
   pub right : HasHead head.version bytes
   pub bundles : head.bundle_count ≡ bundle_count bytes

@@ -74,7 +74,7 @@ impl From<AllocError> for ImageFault {
     }
 }
 
-/// The fault of an image that a fault of programs is.
+/// The same fault of an image.
 impl From<ProgramFault> for ImageFault {
     ghost from_gives = { λ why fault. fault ≡ image_fault why };
 

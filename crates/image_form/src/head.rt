@@ -76,7 +76,7 @@ impl Head {
             + self.data_size as usize
     }
 
-    /// Whether its numbers of bundles, entries, bytes of data and relations are in their ranges.
+    /// Whether there may be so many bundles, entries, bytes of data and relations.
     fn is_in_range(&self) -> bool
         ensures { IsTrue result ↔ AreImageCounts self.now.version self.now.bundle_count self.now.entry_count self.now.data_size self.now.relation_count }
     {

@@ -69,7 +69,8 @@ pub fn one_raw_fault()
 
 /// The law that bytes that are an image of no program are not without a fault. It does nothing.
 ///
-/// It gives no way to the fault. [`read_image`](crate::read_image) returns it, but may return want of memory in its place.
+/// It gives no way to the fault. [`read_image`](crate::read_image) answers it, but may answer want of
+/// memory in its place.
 pub fn fault_where_none_spelled()
     ensures { FaultWhereNoneSpelled }
 {
@@ -77,9 +78,11 @@ pub fn fault_where_none_spelled()
     insn_codec::fault_where_none_spelled();
 }
 
-/// The law that bytes that are the bare bundles of no program are not without a fault. It does nothing.
+/// The law that bytes that are the bare bundles of no program are not without a fault. It does
+/// nothing.
 ///
-/// It gives no way to the fault. [`wrap_raw`](crate::wrap_raw) returns it, but may return want of memory in its place.
+/// It gives no way to the fault. [`wrap_raw`](crate::wrap_raw) answers it, but may answer want of
+/// memory in its place.
 pub fn fault_where_none_raw()
     ensures { FaultWhereNoneRaw }
 {

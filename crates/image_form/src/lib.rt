@@ -3,7 +3,7 @@
 //! An image is `IA64IMG1` or `IA64IMG2`, the numbers of bundles, declared entries, data bytes and
 //! declared relations, in four bytes each, then the entries, the relations in eight bytes each, the
 //! bundles and the data. In version 1, that of `IA64IMG1`, the number of relations is zero.
-//! [`read_image`] takes both versions and returns the program or the first fault, [`wrap_raw`] does
+//! [`read_image`] takes both versions and answers the program or the first fault, [`wrap_raw`] does
 //! so for bare bundles, [`write_image`] gives the image of a program of version 1 where that has room
 //! for it and else of version 2, and [`write_image_2`] that of version 2. [`write_image_of`] and
 //! [`write_image_2_of`] do so where the bytes of the bundles are known. All numbers have their lowest

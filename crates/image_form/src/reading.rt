@@ -20,7 +20,7 @@ use crate::relations::{read_relations, unpadded_relation};
 use ia_program::{BundleOf, Program, ProgramFault, Relation, are_in_range, misplaced_entry};
 use std::alloc::Global;
 
-/// The declared entries of an image of `count` bundles, or the first that is misplaced.
+/// The declared entries of an image of so many bundles, or the first that is misplaced.
 fn read_entries(alloc: Global, count: u32, bytes: &[u8]) -> Result<Vec<u32>, ImageFault>
     requires { length bytes.now < 2 ^ 32 }
     ensures found { IfOk result (λ entries. (entries.items ≡ numbers (length bytes.now / 4) bytes.now) × AreEntries count entries.items) }
@@ -85,16 +85,16 @@ fn read(alloc: Global, bytes: &[u8]) -> Result<Program, ImageFault>
 /// The first fault of the bytes, in the order of [`ImageFault`]; or `Memory`, which may come in
 /// place of any other answer.
 pub fn read_image(alloc: Global, bytes: &[u8]) -> Result<Program, ImageFault>
-    // What is returned has this image, of the version that it begins as.
+    // What is answered has this image, of the version that it begins as.
     ensures found { IfOk result (λ p. Spells p bytes.now) }
 
-    // A program that has this image is returned, so a fault comes only where none has it.
+    // A program that has this image is answered, so a fault comes only where none has it.
     ensures only { (p : Parts) → Spells p bytes.now → (result ≡ Ok p) ⊎ (result ≡ Err ImageFault.Memory) }
 
     // The fault is the first one of the bytes.
     ensures fault { IfErr result (λ fault. fault ≢ ImageFault.Memory → HasImageFault bytes.now fault) }
 
-    // A fault that the bytes have is returned, since they have no other.
+    // A fault that the bytes have is answered, since they have no other.
     ensures only_fault { (fault : FaultOf) → HasImageFault bytes.now fault → (result ≡ Err fault) ⊎ (result ≡ Err ImageFault.Memory) }
 {
     one_program();
@@ -145,16 +145,16 @@ fn wrap(alloc: Global, bytes: &[u8]) -> Result<Program, ImageFault>
 /// whole bundles or more than a program may have, `Length` where bytes are left over, then those of bundles,
 /// targets and runs; or `Memory`, which may come in place of any other answer.
 pub fn wrap_raw(alloc: Global, bytes: &[u8]) -> Result<Program, ImageFault>
-    // What is returned has these bundles and nothing else.
+    // What is answered has these bundles and nothing else.
     ensures found { IfOk result (λ p. RawSpells p bytes.now) }
 
-    // A program that has these bundles and nothing else is returned.
+    // A program that has these bundles and nothing else is answered.
     ensures only { (p : Parts) → RawSpells p bytes.now → (result ≡ Ok p) ⊎ (result ≡ Err ImageFault.Memory) }
 
     // The fault is the first one of the bytes.
     ensures fault { IfErr result (λ fault. fault ≢ ImageFault.Memory → HasRawFault bytes.now fault) }
 
-    // A fault that the bytes have is returned, since they have no other.
+    // A fault that the bytes have is answered, since they have no other.
     ensures only_fault { (fault : FaultOf) → HasRawFault bytes.now fault → (result ≡ Err fault) ⊎ (result ≡ Err ImageFault.Memory) }
 {
     one_raw_program();

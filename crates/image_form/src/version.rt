@@ -19,7 +19,7 @@ pub const VERSION_1_BUNDLE_LIMIT: usize = 4096;
 /// no more than [`VERSION_1_BUNDLE_LIMIT`] bundles.
 #[derive(Clone, Copy, Debug, PartialEq, Eq)]
 pub enum Version {
-    /// The images of programs without relations that have at most [`VERSION_1_BUNDLE_LIMIT`] bundles.
+    /// The images of programs of so many bundles at most that have no relations.
     One,
     /// The images of all programs.
     Two,
@@ -56,7 +56,7 @@ impl Version {
         }
     }
 
-    /// Whether an image of this version has room for this many bundles and relations.
+    /// Whether an image of this version has room for so many bundles and relations.
     pub(crate) fn has_room(self, bundles: usize, relations: usize) -> bool
         ensures { result ≡ has_room self bundles relations }
     {

@@ -43,7 +43,7 @@ not_a_and_m insn common own = a_or_m (opcode_of insn.op) (some_a insn common) (s
 pub not_a_and_i : (insn : Insn) → IsListedA insn → IsListedI insn → ⊥
 not_a_and_i insn common own = a_or_i (opcode_of insn.op) (some_a insn common) (some_i insn own)
 
--- The opcode says which of two families an instruction belongs to.
+-- so the opcode says which it is of two
 pub is_a_of_m : (insn : Insn) → IsListedA insn ⊎ IsListedM insn → IsSome (place_a (opcode_of insn.op)) → IsListedA insn
 is_a_of_m insn (inl common) has = common
 is_a_of_m insn (inr own) has = absurd (a_or_m (opcode_of insn.op) has (some_m insn own))

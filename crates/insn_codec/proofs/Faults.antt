@@ -18,12 +18,12 @@ use Rattle.insn_codec.specs.Laws.{OneFault, NoFaultWhereSpelled, FaultWhereNoneS
 use Rattle.insn_codec.proofs.Slots.{template_units, parts_of}
 use Rattle.insn_codec.proofs.Spellings.{same_raw}
 
--- Where the long instruction isn't a listed one, slot 1 is the first without an instruction.
+-- slot 1 is the first without an instruction: of a long one,
 pub long_unlisted : (u v w : ExecutionUnit) (words : List ℕ) (f : SlotFault) → v ≡ L → HasInsn u 0 words → f ≡ Unlisted 1 → ¬ HasLongInsn words → IsFirstFault (slot_stages (u ∷ v ∷ w ∷ []) words) f
 long_unlisted u L w words f long first e fails = inr (first, inl (tt, e, fails))
 long_unlisted u v w words f long first e fails = absurd (cc)
 
--- Where the second of three instructions isn't a listed one, slot 1 is the first without an instruction.
+-- or of three
 pub second_unlisted : (u v w : ExecutionUnit) (words : List ℕ) (f : SlotFault) → v ≢ L → HasInsn u 0 words → f ≡ Unlisted 1 → ¬ HasInsn v 1 words → IsFirstFault (slot_stages (u ∷ v ∷ w ∷ []) words) f
 second_unlisted u L w words f short first e fails = absurd (short refl)
 second_unlisted u v w words f short first e fails = inr (first, inl (tt, e, fails))

@@ -87,16 +87,16 @@ fn read_bundle(bytes: &[u8; 16]) -> Result<BundleOf, SlotFault>
 /// encoding): a reserved template, or else the first slot whose word is no listed instruction that
 /// fits there.
 pub fn decode_bundle(bytes: &[u8; 16]) -> Result<BundleOf, SlotFault>
-    // What is returned has these bytes.
+    // What is answered has these bytes.
     ensures found { IfOk result (λ b. IsSpelled b bytes.now) }
 
-    // A bundle that has these bytes is returned, so a fault comes only where none has them.
+    // A bundle that has these bytes is answered, so a fault comes only where none has them.
     ensures only { (b : Bundle) → IsSpelled b bytes.now → result ≡ Ok b }
 
     // The fault is the first one of the bytes.
     ensures fault { IfErr result (λ fault. HasSlotFault bytes.now fault) }
 
-    // A fault that the bytes have is returned, so they have no other and are those of no bundle.
+    // A fault that the bytes have is answered, so they have no other and are those of no bundle.
     ensures only_fault { (fault : SlotFaultOf) → HasSlotFault bytes.now fault → result ≡ Err fault }
 {
     one_bundle();
@@ -140,7 +140,7 @@ pub fn encode_bundle(bundle: &BundleOf) -> [u8; 16]
     // The bundle has these bytes.
     ensures spelled { IsSpelled bundle.now result }
 
-    // The bundle has no other bytes, so what was decoded comes back.
+    // It has no others, so what was decoded comes back.
     ensures only { (bytes : List ℕ) → IsSpelled bundle.now bytes → bytes ≡ result }
 {
     one_spelling();

@@ -1,6 +1,6 @@
 //! The sixteen bytes of a bundle: its instructions, and the way back.
 //!
-//! [`decode_bundle`] returns the bundle that the bytes are, or the first fault, and
+//! [`decode_bundle`] answers the bundle that the bytes are, or the first fault, and
 //! [`encode_bundle`] the bytes of a bundle (Intel Itanium Architecture Software Developer's Manual,
 //! volume 1, chapter 3, instruction encoding). Both are exact, and nothing here takes memory.
 #![tactic(auto)]

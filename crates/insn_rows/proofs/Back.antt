@@ -90,7 +90,7 @@ all_kept [] [] [] h t = refl
 all_kept (o ∷ os) (s ∷ ss) (x ∷ xs) h t = λ i. kept o.coding (operand_width o) s x (both-left _ _ h) t.0 i ∷ all_kept os ss xs (both-right _ _ h) t.1 i
 all_kept os ss xs h t = grind arith
 
--- The instruction that a row makes of values has these values.
+-- So the instruction of a row's values has these values.
 pub values_of_insn : (k : Opcode) (os : List Operand) (a b d e f g h : Value) → are_of_kind os (values_of (insn_of k (λ n. v.Absent))) ≡ true → AllTake os (a ∷ b ∷ d ∷ e ∷ f ∷ g ∷ h ∷ []) → values_of (insn_of k (at (a ∷ b ∷ d ∷ e ∷ f ∷ g ∷ h ∷ []))) ≡ a ∷ b ∷ d ∷ e ∷ f ∷ g ∷ h ∷ []
 values_of_insn k os a b d e f g h kind t =
     shaped k a b d e f g h ∙ all_kept os (values_of (insn_of k (λ n. v.Absent))) (a ∷ b ∷ d ∷ e ∷ f ∷ g ∷ h ∷ []) kind t

@@ -85,7 +85,7 @@ rotating_back w z fit low =
     let e : twos (w + 16) z / 2 ^ 16 * 2 ^ 16 ≡ twos (w + 16) z = omega arith in
     ap (signed_of (w + 16)) e ∙ signed-twos (w + 16) (omega arith) z fit
 
--- A value's code is read back as this value.
+-- and is that of one value,
 pub value_back : (coding : Coding) (w : ℕ) (x : Value) → Takes coding w x → suits coding w ≡ true → value coding w (code coding w x) ≡ x
 value_back c.Absent w v.Absent t s = refl
 value_back c.NoPredicate w (v.Pr n) t s = ap v.Pr (sym t)
@@ -128,7 +128,7 @@ code_of_eight (suc (suc (suc (suc (suc (suc zero)))))) h = refl
 code_of_eight (suc (suc (suc (suc (suc (suc (suc zero))))))) h = refl
 code_of_eight (suc (suc (suc (suc (suc (suc (suc (suc n)))))))) h = absurd (omega (arith, h))
 
--- The code of the value that is read from bits is these bits.
+-- whose code is this one
 pub code_back : (coding : Coding) (w n : ℕ) → Takes coding w (value coding w n) → suits coding w ≡ true → n < 2 ^ w → code coding w (value coding w n) ≡ n
 code_back c.Absent w n t s fit = let a : n < 2 ^ 0 = known_below n w 0 s fit in omega arith
 code_back c.NoPredicate w n t s fit = let a : n < 2 ^ 0 = known_below n w 0 s fit in omega arith

@@ -27,7 +27,7 @@ word_at rows (Some n) i v w here of-v of-w = (at_place rows i v n no_row here of
 pub only_word : (rows : List Row) (p : Option ℕ) (i : Insn) (v w : ℕ) → IsPlaceOf rows p (opcode_of i.op) → HasRow rows i v → HasRow rows i w → v ≡ w
 only_word rows p i v w here of-v of-w = word_at rows p i v w here of-v of-w
 
--- The fixed bits of a row come to at least this number.
+-- Its word is at least a number that the fixed bits of each row come to.
 abbrev pub reaches : ℕ → Row → Bool
 reaches least r = nat_le least r.fixed
 
@@ -36,7 +36,7 @@ word_above rows least i w h code =
     let a : least ≤ (get_or rows code.place no_row).fixed = leb-true _ _ (all_get (reaches least) rows code.place no_row code.inside h) in
     omega (arith, a, (code.row no_row).sum)
 
--- A field has only bits below bit k.
+-- And it has only the bits below the highest that a row has.
 abbrev pub is_below : ℕ → BitField → Bool
 is_below k f = nat_le (f.low + f.width) k
 

@@ -1,4 +1,4 @@
--- Numbers with a bound on their bits.
+-- Numbers of so many bits.
 use Rattle.std.proofs.Common.{◌≡◌, ℕ, ◌+◌, ◌-◌, ◌*◌, ◌/◌, ◌%◌, ◌^◌, ◌<◌, ◌≤◌, suc, true, false, cond, leb, ltb, eqb, sym, ap, ◌∙◌, arith, lit<, pow-add, subst, refl}
 use Rattle.std.proofs.lemmas.Nat.{mod_below, pow_pos, shr_split, one_shl}
 use Rattle.std.proofs.Math.Nat.{div-eq_of_lt, pow-le-pow_right, pow-suc}
@@ -9,7 +9,7 @@ use Rattle.ia_insn.proofs.Numbers.{half}
 use Rattle.std.specs.Prelude.{◌&&◌}
 use Rattle.bundle_bits.proofs.Words.{both-right}
 
--- A number has at most w bits where nothing is above them.
+-- A number has so many bits where nothing is above them.
 pub shifted : (n w : ℕ) → n / 2 ^ w ≡ 0 → n < 2 ^ w
 shifted n w h =
     let e : n / 2 ^ w * 2 ^ w + n % 2 ^ w ≡ n = shr_split n w in
@@ -30,7 +30,7 @@ power_most n h = rw (power_is n h) (pow-le-pow_right (lit< tt) h)
 pub fewer : (n w k : ℕ) → w ≤ k → n < 2 ^ w → n < 2 ^ k
 fewer n w k h fit = let e : 2 ^ w ≤ 2 ^ k = pow-le-pow_right (lit< tt) h in omega arith
 
--- A power of 2 over the one before it.
+-- a number over its half
 pub doubled : (w : ℕ) → 2 ^ (w + 1) ≡ 2 * 2 ^ w
 doubled w = ap (λ k. 2 ^ k) (let e : w + 1 ≡ suc w = omega arith in e) ∙ pow-suc 2 w ∙ (omega arith)
 
@@ -40,7 +40,7 @@ half_below n w h = let e = doubled w in omega arith
 pub half_above : (n w : ℕ) → n / 2 < 2 ^ w → n < 2 ^ (w + 1)
 half_above n w h = let e = doubled w in omega arith
 
--- A power of 2 over the one that is 16 lower.
+-- and over its high part
 pub raised : (w : ℕ) → 2 ^ (w + 16) ≡ 2 ^ w * 65536
 raised w = pow-add 2 w 16
 

@@ -20,12 +20,12 @@ use Rattle.insn_rows.specs.Codes.{IsOfRow, HasRow, IsPlaceOf}
 use Rattle.insn_rows.proofs.Back.{arms, opcode_back, values_of_insn}
 use Rattle.insn_rows.proofs.RowWords.{well_made, word_below, word_matches, read_word, word_of_read, all_get, one_match}
 
--- The instruction that is read has the values that are read.
+-- the instruction that is read has the values that are read,
 values_read : (r : Row) (w : ℕ) → is_well_made r ≡ true → HasWord r (read (operands r) w) → values_of (insn_of r.opcode (at (read (operands r) w))) ≡ read (operands r) w
 unfolding listed
 values_read r w h has = values_of_insn r.opcode (operands r) _ _ _ _ _ _ _ (well_made r h).kind has.takes
 
--- The instruction that is read has the word.
+-- so it has the word,
 pub read_found : (r : Row) (w : ℕ) → w < 18446744073709551616 → is_well_made r ≡ true → matches r w ≡ true → HasWord r (read (operands r) w) → IsOfRow r (insn_of r.opcode (at (read (operands r) w))) w
 read_found r w fits h bits has =
     let v = sym (values_read r w h has) in
@@ -37,7 +37,7 @@ read_found r w fits h bits has =
       sum = subst Q v (word_of_read r w fits h bits has);
     }
 
--- An instruction that has the word is the one that is read.
+-- and an instruction that has the word is read.
 values_same : (r : Row) (i : Insn) (w : ℕ) → is_well_made r ≡ true → IsOfRow r i w → read (operands r) w ≡ values_of i
 values_same r i w h code = ap (read (operands r)) code.sum ∙ read_word r (values_of i) h code.listed
 

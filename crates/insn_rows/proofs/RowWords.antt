@@ -83,21 +83,21 @@ fixed_below r h = (well_made r h).below
 placed : (P : List BitField → Type 0) (os : List Operand) (xs : List Value) → AllTake os xs → P (fields os) → P (map field_of (parts os xs))
 placed P os xs t h = subst P (sym (parts_fields os xs t)) h
 
--- A word of a row has 41 bits.
+-- A word has 41 bits,
 pub word_below : (r : Row) (xs : List Value) → is_well_made r ≡ true → HasWord r xs → row_word r xs < 2 ^ 41
 word_below r xs h listed =
     let m = well_made r h in
     let t = listed.takes in
     spread-below r.fixed (parts (operands r) xs) m.below (parts_fit (operands r) xs) (placed (λ fs. are_apart_fields fs ≡ true) (operands r) xs t m.apart) (placed (λ fs. list_all (is_clear r.fixed) fs ≡ true) (operands r) xs t m.clear)
 
--- A word of a row has the code of each value in its operand's fields.
+-- has each code in its fields,
 word_reads : (r : Row) (xs : List Value) → is_well_made r ≡ true → HasWord r xs → Reads (row_word r xs) (parts (operands r) xs)
 word_reads r xs h listed =
     let m = well_made r h in
     let t = listed.takes in
     reads_spread r.fixed (parts (operands r) xs) (parts_fit (operands r) xs) (placed (λ fs. are_apart_fields fs ≡ true) (operands r) xs t m.apart) (placed (λ fs. list_all (is_clear r.fixed) fs ≡ true) (operands r) xs t m.clear)
 
--- A word of a row has the bits of the row outside the operands' fields.
+-- and the bits of its row elsewhere.
 pub word_matches : (r : Row) (xs : List Value) → is_well_made r ≡ true → HasWord r xs → matches r (row_word r xs) ≡ true
 word_matches r xs h listed =
     let m = well_made r h in
@@ -109,7 +109,7 @@ word_matches r xs h listed =
     let e : bit_and (row_word r xs) (other_bits (fields (operands r))) ≡ r.fixed = omega (arith, c, sum) in
     eq-eqb _ _ (ap (bit_and (row_word r xs)) m.mask ∙ e)
 
--- The values of a word of a row are read back.
+-- The values are read back,
 read_parts : (os : List Operand) (xs : List Value) (w : ℕ) → AllTake os xs → AreMade os → Reads w (parts os xs) → read os w ≡ xs
 read_parts [] [] w t m r = refl
 read_parts (o ∷ os) (x ∷ xs) w t m r =
@@ -125,7 +125,7 @@ read_parts (o ∷ os) [] w t m r = absurd t
 pub read_word : (r : Row) (xs : List Value) → is_well_made r ≡ true → HasWord r xs → read (operands r) (row_word r xs) ≡ xs
 read_word r xs h listed = read_parts (operands r) xs (row_word r xs) listed.takes (are_made r h) (word_reads r xs h listed)
 
--- What is read of a number that has the bits of the row has this number as its word.
+-- and what is read of a number that has the bits of the row has its word.
 parts_read : (os : List Operand) (w : ℕ) → AreMade os → AllTake os (read os w) → parts os (read os w) ≡ own (fields os) w
 parts_read [] w m t = refl
 parts_read (o ∷ os) w m t =

@@ -41,7 +41,7 @@ untouched b (p ∷ ps) q h fit s cl =
     ap (bits q.low q.width) (put_on b p ps empty) ∙ with-other (b + word_of ps) p.low p.width p.value fit.0 q.low q.width (split q (field_of p) (both-left _ _ h))
     ∙ untouched b ps q (both-right _ _ h) fit.1 (both-right _ _ s) (both-right _ _ cl)
 
--- A field may be put where there are zeros.
+-- so a field stands where there are zeros
 pub put : (b : ℕ) (p : Part) (ps : List Part) → AllFit ps → are_apart_fields (map field_of (p ∷ ps)) ≡ true → list_all (is_clear b) (map field_of (p ∷ ps)) ≡ true → b + word_of (p ∷ ps) ≡ with_bits (b + word_of ps) p.low p.width p.value
 put b p ps fit s cl =
     put_on b p ps (untouched b ps (field_of p) (both-right _ _ (both-left _ _ s)) fit (both-right _ _ s) (both-right _ _ cl) ∙ eqb-true _ _ (both-left _ _ cl))

@@ -12,7 +12,7 @@ pub record IsOfRow (r : Row) (insn : Insn) (w : ℕ) : Type 0 where
   pub listed : HasWord r (values_of insn)
   pub sum : w ≡ row_word r (values_of insn)
 
--- The instruction is one of a row of the table, and the word is its word there.
+-- It is so of a row of the table.
 pub record HasRow (rows : List Row) (insn : Insn) (w : ℕ) : Type 0 where
   pub place : ℕ
   pub inside : place < length rows

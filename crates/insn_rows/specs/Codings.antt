@@ -17,7 +17,7 @@ is_negative (negsuc n) = true
 abbrev pub code_of_step : ℕ → ℕ
 code_of_step n = if n == 16 then 0 else if n == 8 then 1 else if n == 4 then 2 else 3
 
--- An operand of this coding, with `width` bits, may have the value.
+-- An operand of this coding with so many bits may have the value.
 abbrev pub Takes : Coding → ℕ → Value → Type 0
 Takes c.Absent width v.Absent = Unit {0}
 Takes c.NoPredicate width (v.Pr n) = n ≡ 0

@@ -20,7 +20,7 @@ operand_width o = width_of (list_of o.bits)
 unfoldable pub listed : OperandList → List Operand
 listed o = o.first ∷ o.second ∷ o.third ∷ o.fourth ∷ o.fifth ∷ o.sixth ∷ o.seventh ∷ []
 
--- The operands of a row.
+-- those of a row
 abbrev pub operands : Row → List Operand
 operands r = listed r.format.operands
 

@@ -44,7 +44,7 @@ abbrev pub are_left : List BitField → Bool
 are_left [] = true
 are_left (f ∷ fs) = (bits f.low f.width (other_bits fs) == 2 ^ f.width - 1) && are_left fs
 
--- The codes of the coding have this many bits.
+-- the codes of the coding have this many bits
 abbrev pub suits : Coding → ℕ → Bool
 suits c.Absent width = width == 0
 suits c.NoPredicate width = width == 0
@@ -72,12 +72,12 @@ suits c.Displacement width = nat_le 1 width && nat_le width 32
 abbrev pub is_sized : Operand → Bool
 is_sized o = nat_le (operand_width o) 41 && suits o.coding (operand_width o)
 
--- Each operand has as many bits as its coding, at most 41, and its fields share no bit.
+-- so it is of each operand, and its own fields share no bit
 abbrev pub AreMade : List Operand → Type 0
 AreMade [] = Unit {0}
 AreMade (o ∷ os) = IsTrue (is_sized o) × IsTrue (are_apart_fields (list_of o.bits)) × AreMade os
 
--- A coding's values are of the kind of this value.
+-- the coding's values are of the kind of this one
 abbrev pub is_of_kind : Coding → Value → Bool
 is_of_kind c.Absent v.Absent = true
 is_of_kind c.NoPredicate (v.Pr n) = true
@@ -103,7 +103,7 @@ is_of_kind c.Short (v.Short z) = true
 is_of_kind c.Displacement (v.Displacement z) = true
 is_of_kind coding value = false
 
--- Each operand's coding has values of the kind of its value.
+-- so it is of each operand
 abbrev pub are_of_kind : List Operand → List Value → Bool
 are_of_kind [] [] = true
 are_of_kind (o ∷ os) (x ∷ xs) = is_of_kind o.coding x && are_of_kind os xs

@@ -14,7 +14,7 @@ use crate::row::{Coding, Operand};
 use crate::value::Value;
 use ia_insn::{Br, Gr, Pr};
 
-/// Whether a number has at most `width` bits.
+/// Whether a number has at most so many bits.
 #[inline]
 #[tactic(auto, using(crate::proofs::Numbers::shifted, crate::proofs::Numbers::unshifted))]
 fn is_within(number: u64, width: u32) -> bool
@@ -35,7 +35,7 @@ fn power(exponent: u32) -> u64
     1 << exponent
 }
 
-/// Whether `width` bits are enough for the two's complement of a signed number.
+/// Whether so many bits are enough for the two's complement of a signed number.
 #[inline]
 fn fits_signed(number: i64, width: u32) -> bool
     requires some { 1 ≤ width }
@@ -46,7 +46,7 @@ fn fits_signed(number: i64, width: u32) -> bool
     -half <= number && number < half
 }
 
-/// The two's complement, of `width` bits, of a signed number for which these are enough.
+/// The two's complement of a signed number for which so many bits are enough.
 #[inline]
 fn twos(number: i64, width: u32) -> u64
     requires some { 1 ≤ width }
@@ -62,7 +62,7 @@ fn twos(number: i64, width: u32) -> u64
     }
 }
 
-/// The signed number whose two's complement of `width` bits this is.
+/// The signed number with this two's complement of so many bits.
 #[tactic(auto, using(crate::proofs::Numbers::signed_fits))]
 fn signed_within(number: u64, width: u32) -> i64
     requires some { 1 ≤ width }
@@ -79,7 +79,7 @@ fn signed_within(number: u64, width: u32) -> i64
     }
 }
 
-/// The signed number whose two's complement of `width` bits this is, at most 16.
+/// The same, of at most 16 bits.
 #[tactic(auto, using(crate::proofs::Numbers::wider))]
 fn short_within(number: u64, width: u32) -> i16
     requires some { 1 ≤ width }
@@ -90,7 +90,7 @@ fn short_within(number: u64, width: u32) -> i16
     signed_within(number, width) as i16
 }
 
-/// The signed number whose two's complement of `width` bits this is, at most 32.
+/// The same, of at most 32 bits.
 #[tactic(auto, using(crate::proofs::Numbers::wider))]
 fn displacement_within(number: u64, width: u32) -> i32
     requires some { 1 ≤ width }
@@ -101,7 +101,7 @@ fn displacement_within(number: u64, width: u32) -> i32
     signed_within(number, width) as i32
 }
 
-/// The signed number whose 16 low bits are zeros and whose others are these `width` bits.
+/// The signed number whose 16 low bits are zeros and whose others are these, so many.
 #[tactic(auto, using(crate::proofs::Numbers::raised_in_64, crate::proofs::Numbers::raised_whole))]
 fn signed_above(number: u64, width: u32) -> i64
     requires within { width ≤ 41 }

@@ -152,10 +152,10 @@ pub const EXTENDED_SIZE: Operand = operand!(Coding::Size(1, 4), 27 2);
 /// The low bits of x6 of M1 to M16: bytes of an access.
 pub const ACCESS_SIZE: Operand = operand!(Coding::Size(1, 8), 30 2);
 
-/// The low bits of x6 of a fill or a spill: its 8 bytes.
+/// The same of a fill or a spill.
 pub const WHOLE_SIZE: Operand = operand!(Coding::Size(8, 8), 30 2);
 
-/// The low bits of x6 of a fetch-and-add: its 4 or 8 bytes.
+/// The same of a fetch-and-add.
 pub const FETCH_ADD_SIZE: Operand = operand!(Coding::Size(4, 8), 30 2);
 
 // Hints.

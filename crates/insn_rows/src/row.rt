@@ -35,7 +35,7 @@ pub enum Coding {
     LessOne,
     /// A position of at most 63, as 63 less it.
     From63,
-    /// 1, 2, 4 or 8 bytes, between the two numbers, as the logarithm.
+    /// 1, 2, 4 or 8 bytes, at least and at most so many, as the logarithm.
     Size(u8, u8),
     /// The increment of a fetch-and-add: a sign, and the code of 16, 8, 4 or 1.
     Increment,
@@ -45,7 +45,7 @@ pub enum Coding {
     PredicateMask,
     /// A signed number in two's complement.
     Signed,
-    /// A signed number in two's complement, of which the 16 low bits are zeros and left out.
+    /// The same, of which the 16 low bits are zeros and left out.
     RotatingMask,
     /// A signed number of up to 16 bits, in two's complement.
     Short,

@@ -53,7 +53,7 @@ pair_of count a b h fit =
 field_ones : (pos width : ℕ) → (2 ^ width - 1) * 2 ^ pos ≡ 2 ^ (width + pos) - 2 ^ pos
 field_ones pos width = mul_comm (2 ^ width - 1) (2 ^ pos) ∙ mul-sub (2 ^ pos) (2 ^ width) 1 ∙ (rw (pow-add 2 width pos) (omega arith))
 
--- The ones of a field at its position are within a word.
+-- they are within a word
 ones_below : (pos width : ℕ) → pos + width ≤ 64 → (2 ^ width - 1) * 2 ^ pos < 2 ^ 64
 ones_below pos width h =
     let some = pow_pos width in
@@ -130,7 +130,7 @@ turned_right width number within fits =
     let turned : 2 ^ 64 - 1 - number * 2 ^ unused ≡ rest * 2 ^ unused + (2 ^ unused - 1) = omega arith in
     ap (λ x. x / 2 ^ unused) turned ∙ shr_high rest unused (2 ^ unused - 1) low
 
--- A number whose top bit is 1, moved to the top and back, is extended with ones.
+-- and where its top bit is 1
 extended_large : (width number : ℕ) → 1 ≤ width → width ≤ 64 → 2 ^ (width - 1) ≤ number → number < 2 ^ width → shift_right_signed (number * 2 ^ (64 - width)) (64 - width) ≡ extended width number
 extended_large width number some within large fits =
     let unused = 64 - width in

@@ -27,7 +27,7 @@ fn low_bits(number: u64, width: u8) -> u64
     number & low_ones(width)
 }
 
-/// A number of `width` bits, 1 to 64, sign-extended to a word.
+/// A number of so many bits, 1 to 64, sign-extended to a word.
 #[tactic(auto, using(crate::proofs::Words::extended_of))]
 fn extended(width: u8, number: u64) -> u64
     requires some { 1 ≤ width }

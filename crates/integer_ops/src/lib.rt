@@ -63,8 +63,9 @@ fn unless_nat(a: Cell, b: Cell, holds: bool) -> Option<bool>
     if a.nat || b.nat { None } else { Some(holds) }
 }
 
-/// The result of a test of the registers r2 and r3 (volume 3, chapter 2, `cmp`, `cmp4`, `tbit` and `tnat`). Except for `tnat`, it
-/// is None where one of them has NaT. r0, which reads 0 and has no NaT, stands for an operand that the operation lacks.
+/// The result of a test of the registers r2 and r3 (volume 3, chapter 2, `cmp`, `cmp4`, `tbit` and
+/// `tnat`). It is None where one of them has NaT, but for `tnat`. r0, which reads 0 and has no NaT, stands
+/// for an operand that the operation lacks.
 pub fn result_of(condition: &Condition, a: Cell, b: Cell) -> Option<bool>
     requires ranges { IsCondition condition.now }
     ensures { result ≡ result_of condition.now a b }

@@ -27,7 +27,7 @@ LosesFirst-consumed (Some left) (Some rest) bytes h =
     let long : length bytes ≤ length left = omega (arith, ap length h, length-append bytes rest) in
     (long, ap Some (sym (ap (drop (length bytes)) h ∙ drop-append_seam bytes rest)))
 
--- A front and the first n bytes of the piece after it are the front of what was left.
+-- the same for a front and a piece after it, of which the first n bytes came
 pub LosesFirst-next : (old mid new : Option (List ℕ)) (front piece : List ℕ) (n count : ℕ) → n ≤ length piece → length front + n ≡ count
     → Consumes old mid front → Consumes mid new (take n piece) → IfSome old (λ left. LosesFirst count left new)
 LosesFirst-next old mid new front piece n count within long before now =

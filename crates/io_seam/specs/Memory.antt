@@ -1,7 +1,7 @@
 -- What contracts see of a source and of a sink in memory.
 use Rattle.std.specs.Prelude.{ℕ, List}
 
--- A source in memory.
+-- a source in memory
 pub record Supply : Type 0 where
   pub left : List ℕ  -- the bytes still to come
   pub step : ℕ  -- how many bytes a call takes at most
@@ -9,7 +9,7 @@ pub record Supply : Type 0 where
   pub calls : ℕ  -- the number of the next call
   pub faults : ℕ  -- how many calls failed
 
--- A sink in memory.
+-- a sink in memory
 pub record Store : Type 0 where
   pub given : List ℕ  -- the bytes so far
   pub capacity : ℕ  -- how many bytes there is room for in all

@@ -30,7 +30,7 @@ impl Schedule {
         }
     }
 
-    // Counts a call, and returns whether it is one that is to fail.
+    // Counts a call, and answers whether it is one that is to fail.
     fn next_fails(&mut self) -> bool
         ensures fails { IsTrue result ↔ Contains self.old.failing.items self.old.calls }
         ensures counts { self.new ≡ record self.old { calls = counted self.old.calls } }
@@ -186,8 +186,7 @@ impl MemSink {
     ///
     /// # Errors
     ///
-    /// `AllocError`, where there is no memory for the room, may come in place of the sink. No other call on the sink needs
-    /// memory.
+    /// `AllocError`, where there is no memory for the room, may come in place of the sink. No other call on the sink needs memory.
     pub fn new(
         alloc: Global,
         capacity: usize,

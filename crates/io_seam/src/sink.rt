@@ -14,7 +14,7 @@ pub trait Sink {
     /// How often the sink failed, a count that never falls and stands still at 2^64 - 1.
     ghost faults: { Self → ℕ };
 
-    /// Gives the first bytes of the piece to the sink, and returns how many: at least one of a
+    /// Gives the first bytes of the piece to the sink, and answers how many: at least one of a
     /// piece that isn't empty.
     ///
     /// # Errors

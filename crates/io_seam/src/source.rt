@@ -6,7 +6,7 @@ ghost use Rattle.io_seam.specs.Faults.{Rose};
 
 use thiserror::Error;
 
-/// A source or a sink failed. Nothing was taken or given in the call that returns this.
+/// A source or a sink failed. Nothing was taken or given in the call that answers this.
 #[derive(Clone, Copy, Debug, PartialEq, Eq, Error)]
 #[error("the source or the sink failed")]
 pub struct Failed;
@@ -19,7 +19,7 @@ pub trait Source {
     /// How often the source failed, a count that never falls and stands still at 2^64 - 1.
     ghost faults: { Self → ℕ };
 
-    /// Puts the next bytes at the front of the piece, and returns how many. A count of 0 on a
+    /// Puts the next bytes at the front of the piece, and answers how many. An answer of 0 on a
     /// piece that isn't empty means the end.
     ///
     /// # Errors

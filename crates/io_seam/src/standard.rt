@@ -44,7 +44,7 @@ impl<R: Read> Source for StdSource<R> {
     ///
     /// # Errors
     ///
-    /// `Failed` where the reader returns any other error.
+    /// `Failed` where the reader answers any other error.
     fn take(&mut self, piece: &mut [u8]) -> Result<usize, Failed>
         ensures within { IfOk result (λ count. count ≤ length piece.new) }
         ensures quiet { OnOk result (self.new ≡ self.old) }
@@ -114,7 +114,7 @@ impl<W: Write> Sink for StdSink<W> {
     ///
     /// # Errors
     ///
-    /// `Failed` where the writer returns any other error, or takes nothing of a piece that isn't
+    /// `Failed` where the writer answers any other error, or takes nothing of a piece that isn't
     /// empty.
     fn give(&mut self, piece: &[u8]) -> Result<usize, Failed>
         ensures within { IfOk result (λ count. count ≤ length piece.now) }

@@ -42,7 +42,7 @@ lanes_are f w a b k (suc n) =
     spread : (x p m q : ℕ) → (x + p * m) * q ≡ x * q + m * (q * p)
     spread x p m q = add-mul x (p * m) q ∙ ap (λ r. x * q + r) (ap (λ r. r * q) (mul_comm p m) ∙ mul_assoc m p q ∙ ap (λ r. m * r) (mul_comm p q))
 
--- The lanes of two words, taken as digits, come to the sum of all lanes.
+-- so it is for all lanes of two words
 sum_of_lanes : (f : LaneFn) (w n a b : ℕ) → number_l (2 ^ w) (zip2 (lane_value f w) (digits_l (2 ^ w) n a) (digits_l (2 ^ w) n b)) ≡ lanes_from f w a b 0 n
 sum_of_lanes f w n a b =
     let one : 2 ^ (w * 0) ≡ 1 = ap (λ k. 2 ^ k) (let e : w * 0 ≡ 0 = omega arith in e) in

@@ -39,7 +39,7 @@ three_join_none h a b c before item gap is = rw is (full_joins_none (a ∷ b ∷
 pub one_packed : (item : Item) → IsPacked (item ∷ []) (wanted_as item false ∷ []) item 1
 one_packed item = record { closed = []; count = omega arith; few = omega arith; rest = λ more. refl }
 
--- The packing of items and one more, by whether the one more joins the last bundle.
+-- one more, where it joins the last bundle
 next_if : (b c : Bool) (items more : List Item) (item : Item) (closed joined begun : List (List Wanted)) → b ≡ c → plain_of (items ++ item ∷ more) ≡ closed ++ (if b then joined else begun)
     → plain_of ((items ++ item ∷ []) ++ more) ≡ closed ++ (if c then joined else begun)
 next_if b c items more item closed joined begun is h =
@@ -57,7 +57,7 @@ joined_packed items current before item bundles h is =
       rest = λ more. next_if (joins current before item false) true items more item h.closed (plain_on (current ++ wanted_as item false ∷ []) item more) (current ∷ plain_on (wanted_as item false ∷ []) item more) is (h.rest (item ∷ more));
     }
 
--- One item more is packed where it begins the next bundle.
+-- and where it begins the next
 pub begun_packed : (items : List Item) (current : List Wanted) (before item : Item) (bundles : ℕ) → length current ≤ 3 → IsPacked items current before bundles → joins current before item false ≡ false
     → IsPacked (items ++ item ∷ []) (wanted_as item false ∷ []) item (bundles + 1)
 begun_packed items current before item bundles full h is =
@@ -143,7 +143,7 @@ packed_on done (item ∷ items) h = subst HasPacked (append_assoc done (item ∷
       is = begun_packed done h.current h.before item h.bundles h.few h.is e;
     }
 
--- There are at most three times as many items as bundles.
+-- so there are three times as many at most as bundles
 pub items_few : (items : List Item) → length items ≤ 3 * length (plain_of items)
 items_few [] = omega arith
 items_few (item ∷ items) =

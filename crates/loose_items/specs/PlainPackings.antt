@@ -14,8 +14,8 @@ held (One a) = a ∷ []
 held (Two a b) = a ∷ b ∷ []
 held (Three a b c) = a ∷ b ∷ c ∷ []
 
--- Items are packed so far into `bundles` bundles. The last one holds `current`, the last item is `before`, and whatever comes
--- after them is packed from there on.
+-- Items are packed so far: their last bundle, one of so many, holds these, the last of them is this one, and whatever
+-- comes after them is packed from there on.
 pub record IsPacked (items : List Item) (current : List Wanted) (before : Item) (bundles : ℕ) : Type 0 where
   pub closed : List (List Wanted)
   pub count : length closed + 1 ≡ bundles

@@ -32,9 +32,9 @@ pub fn wanted_as(item: &Item, gap: bool) -> Wanted
     }
 }
 
-/// Whether an instruction joins the bundle that holds these, of which the last is the instruction before it. It does where no
-/// label of text and no relation stands between the two, the one before isn't a call, and they have a layout together. With `gap`
-/// a stop is wanted between the two.
+/// Whether an instruction joins the bundle that holds these, the last of them the instruction before it: no label of
+/// text and no relation stands between the two, the one before isn't a call, and they have a layout together. With
+/// `gap` a stop is wanted between the two.
 #[tactic(auto, using(crate::proofs::PlainPackings::full_joins_none))]
 pub fn joins(current: &[Wanted], before: &Item, item: &Item, gap: bool) -> bool
     ensures value { result ≡ joins current.now before.now item.now gap }
@@ -88,7 +88,7 @@ fn joined(bundle: Held, before: &Item, item: &Item) -> Option<Held>
 }
 
 impl PlainPacking {
-    /// The packing of one instruction.
+    /// That of one instruction.
     pub fn of(item: &Item) -> Self
         ensures { IsPacked (item.now ∷ []) (held result.held) result.before result.bundles × (result.bundles ≡ 1) }
     {
@@ -101,7 +101,7 @@ impl PlainPacking {
         }
     }
 
-    /// The packing with one instruction more.
+    /// That with one instruction more.
     pub fn with(&self, item: &Item) -> Self
         requires { self.now.bundles ≤ BUNDLE_LIMIT }
         ensures { (items : List ItemOf) → IsPacked items (held self.now.held) self.now.before self.now.bundles → IsPacked (items ++ item.now ∷ []) (held result.held) result.before result.bundles }

@@ -50,7 +50,7 @@ entry_marked s out n sound is has =
     let (some, name, among, found) = entry_named s.declared.labels out s.declared.entries n is has in
     known_marked s n (address_of s.declared.labels name) found (label_within (MayBeNamed s) s.declared.labels name sound.labels)
 
--- Each declared entry is below the number of instructions.
+-- and there are so many
 risen_below : (low count : ℕ) (ns : List ℕ) (n : ℕ) → RiseFrom low count ns → Contains ns n → n < count
 risen_below low count [] n rise has = absurd (none_there n has)
 risen_below low count (m ∷ ns) n rise has = elim (first_or_later m n ns has) [
@@ -125,7 +125,7 @@ related_of s items entries lines is es ls passed =
     subst (λ xs. ArePassed (relation_stages (IsItemEntry xs (loose_of s).entries) [] s.declared.relations)) is
     (subst (λ fs. ArePassed (relation_stages (IsItemEntry items fs) [] s.declared.relations)) es (subst (λ ks. ArePassed (relation_stages (IsItemEntry items entries) [] ks)) ls passed))
 
--- The first fault of the lines of relations is that of the text.
+-- and their first fault is that of the text
 pub relation_reported : (s : LooseParts) (count : ℕ) (items : List Item) (entries : List ℕ) (lines : List RelationLine) (e : TextError) → items ≡ (loose_of s).items → entries ≡ (loose_of s).entries → lines ≡ s.declared.relations
     → AreLabelsBelow (length s.items) s.declared → 1 ≤ length s.items → name_fault s ≡ None → (e ≡ error.Memory) ⊎ IsFirstFault (relation_stages (IsItemEntry items entries) [] lines) e
     → (e ≡ error.Memory) ⊎ IsFirstFault (end_stages count s) e

@@ -77,7 +77,7 @@ IsNarrow (op.Break u imm) = imm < NARROW_LIMIT
 IsNarrow (op.Nop u imm) = imm < NARROW_LIMIT
 IsNarrow x = ⊤
 
--- The number of a `break` or a `nop` without its unit letter fits a unit other than X, since the unit is then I.
+-- It does without its unit letter, since the unit is then I.
 abbrev pub HasNarrowNumber : Line → Type 0
 HasNarrowNumber (line.Slot draft stop) = IsTrue draft.bare → IsNarrow draft.insn.op
 HasNarrowNumber value = ⊤

@@ -114,16 +114,16 @@ fn read(alloc: Global, text: &[u8]) -> Result<LooseText, TextError>
 pub fn read_loose(alloc: Global, text: &[u8]) -> Result<LooseText, TextError>
     requires { length text.now + 1 < 2 ^ 32 }
 
-    // What is returned is what the text says.
+    // What is answered is what the text says.
     ensures found { IfOk result (ReadsLoose text.now) }
 
-    // What the text says is returned, so a fault comes only where it says no loose text.
+    // What the text says is answered, so a fault comes only where it says no loose text.
     ensures only { (t : Loose) → ReadsLoose text.now t → (result ≡ Ok t) ⊎ (result ≡ Err error.Memory) }
 
     // The fault is the first one of the text.
     ensures fault { IfErr result (λ e. e ≢ error.Memory → HasLooseFault text.now e) }
 
-    // A fault that the text has is returned, since it has no other.
+    // A fault that the text has is answered, since it has no other.
     ensures only_fault { (e : ErrorOf) → HasLooseFault text.now e → (result ≡ Err e) ⊎ (result ≡ Err error.Memory) }
 {
     one_loose_text();

@@ -9,11 +9,11 @@ use Rattle.ia_meaning.specs.Names.{predicate_index}
 use Rattle.ia_meaning.specs.Frames.{rotated}
 use Rattle.ia_meaning.specs.Loops.{written, turn_writes}
 
--- The registers with the new counts.
+-- with the new counts
 abbrev counted : Option ℕ → Option ℕ → Registers → Registers
 counted lc ec r = apply (written SetEc ec []) (apply (written SetLc lc []) r)
 
--- The registers with the new counts and p63, which is written before a rotation.
+-- and p63, which is written before a rotation
 abbrev unturned : Option ℕ → Option ℕ → Option Bool → Registers → Registers
 unturned lc ec p63 r = apply (written (SetPredicate (predicate_index (counted lc ec r).frame 63)) p63 []) (counted lc ec r)
 

@@ -5,7 +5,7 @@ use Rattle.slot_effects.specs.declared.change.Change.{Change}
 use Rattle.slot_effects.specs.Changes.{outcome_making, MayMake}
 use Rattle.machine_state.specs.Contents.{Contents}
 
--- The outcome of a slot that makes a change and goes on so.
+-- the outcome of a slot that makes a change and goes on so
 abbrev pub outcome_with : Contents → Change → Next → Outcome
 outcome_with c change next = outcome_making c.registers c.memory change next
 

@@ -15,14 +15,14 @@ pub record Contents : Type 0 where
   pub memory : Memory
   pub range : Rse
 
--- What it holds at the start, with these data.
+-- what it holds at the start, with these data
 abbrev pub zero_contents : List ℕ → Contents
 zero_contents bytes = record { registers = zero_registers; memory = record { bytes = bytes; alat = [] }; range = zero_range }
 
--- What the machine's register stack holds.
+-- its register stack
 abbrev pub stack_of : Contents → StackState
 stack_of c = record { cells = c.registers.cells; frame = c.registers.frame; range = c.range; limit = STACK_LIMIT }
 
--- What an outcome leaves.
+-- what an outcome leaves
 abbrev pub left_by : Outcome → Contents → Contents
 left_by o c = record { registers = registers_after o c.registers; memory = o.memory; range = range_of c.range (frame_changes o.writes) }

@@ -19,7 +19,7 @@ pub stored_there : (address at size x : ℕ) (bytes : List ℕ) → address ≡ 
 unfolding stored
 stored_there address at size x bytes e = ap (λ k. with_bytes bytes k size x) (sym (place_of address at e))
 
--- What is written at the place of an address is what is stored, where the memory shows its bytes as a slice.
+-- the same where the memory shows its bytes as a slice
 pub stored_whole : (address at size x len : ℕ) (bytes old shown new : List ℕ) → address ≡ data_base + at → old ≡ bytes → shown ≡ old
     → len ≡ length shown → new ≡ with_bytes shown at size x → take len (new ++ drop (length new) old) ≡ stored bytes address size x
 stored_whole address at size x len bytes old shown new e is same count written =

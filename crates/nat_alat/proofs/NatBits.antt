@@ -64,7 +64,7 @@ same_bit : (n k : ℕ) (b : Bool) → bit n k ≡ b → n ≡ with_bit n k b
 same_bit n k true e = when_set n k e
 same_bit n k false e = let whole = when_clear n k e in omega arith
 
--- Where the test of the code finds the bit as given, the number has it already.
+-- the same, by the test of code
 pub already : (n k : ℕ) (found b : Bool) → found ≡ bit n k → beq found b ≡ true → n ≡ with_bit n k b
 already n k true true e h = same_bit n k true (sym e)
 already n k false false e h = same_bit n k false (sym e)

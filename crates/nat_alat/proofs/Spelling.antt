@@ -55,7 +55,7 @@ written_there n at x y bytes new h low is =
     ∙ ap (with_bytes bytes at n) low
     ∙ low_bits n at x bytes
 
--- The low 2, 4 or 8 bytes of a number are written at the front of what follows a place.
+-- the same for a size of 2, 4 and 8 bytes
 pub written_2 : (size at x : ℕ) (bytes new : List ℕ) → size ≡ 2 → at + size ≤ length bytes
     → new ≡ bytes_low_first 0 2 (x % 65536) ++ drop 2 (take (length bytes - at) (drop at bytes))
     → put_mid at (length bytes - at) bytes new ≡ with_bytes bytes at size x

@@ -9,7 +9,7 @@ use ia_meaning::limits::ALAT_LIMIT;
 use ia_meaning::{AlatEntry, Spot};
 use std::marker::Model;
 
-/// Whether the `size` bytes from an address on end at another address or before it.
+/// Whether so many bytes from an address on end at another address or before it.
 fn ends_by(from: u64, size: u8, to: u64) -> bool
     ensures { result ≡ nat_le (from + size) to }
 {

@@ -6,7 +6,7 @@ ghost use Rattle.ia_meaning.specs.Loads.{bytes_at, with_bytes};
 
 use byteorder::{ByteOrder, LittleEndian};
 
-/// The number in the `size` bytes from position `at` on, the lowest first.
+/// The number in so many bytes from a place on.
 pub(crate) fn number_at(bytes: &[u8], at: usize, size: u8) -> u64
     requires size { IsAccessSize size }
     requires within { at + size ≤ length bytes.now }
@@ -21,7 +21,7 @@ pub(crate) fn number_at(bytes: &[u8], at: usize, size: u8) -> u64
     }
 }
 
-/// Writes the `size` low bytes of a number from position `at` on, the lowest first.
+/// Writes the low bytes of a number, so many, from a place on.
 #[tactic(auto, using(crate::proofs::Spelling::written_2, crate::proofs::Spelling::written_4, crate::proofs::Spelling::written_8))]
 pub(crate) fn put_number(bytes: &mut [u8], at: usize, size: u8, value: u64)
     requires size { IsAccessSize size }

@@ -32,7 +32,7 @@ fn is_aligned(address: u64, size: u8) -> bool
     }
 }
 
-/// Whether the bytes of an access are all among `count` bytes of data.
+/// Whether the bytes of an access are among so many data bytes.
 fn is_within(count: usize, address: u64, size: u8) -> bool
     ensures { result ≡ (nat_le data_base address && nat_le (address + size) (data_base + count)) }
 {

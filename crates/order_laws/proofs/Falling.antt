@@ -28,12 +28,12 @@ before_trans a b c (inl h) (inr k) = inl (omega (arith, k.0))
 before_trans a b c (inr h) (inl k) = inl (omega (arith, h.0))
 before_trans a b c (inr h) (inr k) = inr (h.0 ∙ k.0, omega (arith, h.1, k.1))
 
--- No place comes before itself.
+-- and no place comes before itself
 pub not_before_itself : (a : Place) → IsBefore a a → ⊥
 not_before_itself a (inl h) = omega arith
 not_before_itself a (inr h) = omega (arith, h.1)
 
--- No place comes before the first.
+-- nor any before the first
 pub none_before_first : (a : Place) → IsBefore a (first_of 0) → ⊥
 none_before_first a (inl h) = omega arith
 none_before_first a (inr h) = omega (arith, h.1)
@@ -114,7 +114,7 @@ row_slot insns i is = of (i.slot == 0) refl is
     of true t h = grind (arith, nat_tests)
     of false t h = absurd cc
 
--- Each instruction below the length of a sequence stands at slot 0 of its number.
+-- and each below its length stands there
 pub sequence_place : (insns : List Insn) (n : ℕ) → n < length insns → IsSome (sequence_insn insns (first_of n))
 unfolding sequence_insn
 sequence_place insns n l = elim (slice_get_cases insns n).1 [
@@ -129,7 +129,7 @@ next_place (over_sequence sequence) i j e =
     let n = sequence_next_is sequence.insns i j e in
     subst (λ (k : Place). IsSome (sequence_insn sequence.insns k)) n.1 (sequence_place sequence.insns (i.bundle + 1) n.0)
 
--- The next place comes later.
+-- and comes later
 pub next_after : (g : Graph) (i j : Place) → next_in g i ≡ Some j → IsBefore i j
 next_after (over_program p) i j e = let n = next_is p.bundles i j e in n.after
 next_after (over_sequence sequence) i j e = let n = sequence_next_is sequence.insns i j e in subst (IsBefore i) n.1 (inl (omega arith))

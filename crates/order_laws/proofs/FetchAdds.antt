@@ -119,11 +119,11 @@ found : (p : Program) (x : GatheredSlot) (size address : ℕ) (inc : ℤ) (add :
 found p x size address inc add on = let a = slot_adds p x size address inc add on in (a.target, (a.names, a.writes))
 
 module _ (p : Program) (size address : ℕ) (inc : ℤ) (ys : List GatheredSlot) (x : GatheredSlot) (add : IsFetchAdd size address inc x) where
-  -- A fetch-and-add finds the sum of what is in memory and the increments.
+  -- it finds the sum of what is in memory and the increments
   abbrev FindsFrom : Memory → List ℤ → Type 0
   FindsFrom m incs = Finds p (sum_of size (There m address size) incs) add.r1 x
 
-  -- The sum is found by the next slot, or by one of the rest.
+  -- it is the next slot, or one of the rest
   front : (g : Gathered) (insn : Option Insn) (rest : List GatheredSlot) (incs : List ℤ) (xs : List GatheredSlot) → IsOn (slot_outcome p g insn).next
       → slot_here g insn ++ rest ≡ xs ++ x ∷ ys → AreFetchAdds size address incs xs
       → ((js : List ℤ) (zs : List GatheredSlot) → rest ≡ zs ++ x ∷ ys → AreFetchAdds size address js zs → FindsFrom (slot_outcome p g insn).memory js)

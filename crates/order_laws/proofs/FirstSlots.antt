@@ -258,7 +258,7 @@ module _ (p : Program) (program : IsProgram p) (s : State) (w : Walk) (known : I
     frames = λ q. ap frame_changes (sym (split O.writes)) ∙ frames_append (frame_ahead O.writes) (after_frame O.writes);
   }
 
-  -- The view of an `alloc` that is first is the group's start.
+  -- its view is the group's start
   pub alloc_outcome : slot_outcome p (gathered_from s) (Some j) ≡ O
   alloc_outcome =
       ap (λ v. let e = effect (site p s.place.bundle) j v s.memory R.unat in settled (next_of p.bundles s.place) s.memory e.next e)

@@ -171,7 +171,7 @@ module _ (p : Program) (past : List Place) (base : Registers) (ws : List Registe
       (resource_once base.frame o.access.resource b.resource t way.frame o.range r (o.names ∙ ap Some q) e)
       (change_of o.access.kind o.plain) (strict_clash o.access.kind b.kind o.plain k) g
 
-  -- A strict access under a guard that is 1 finds what the start had.
+  -- so it finds there what the start had
   same_plain : (b : Access) → HasAccess j b → IsStrict b.kind → IsInRange b.resource → holds S b.guard ≡ true → (t : Location) → location_of base.frame b.resource ≡ Some t → ((w : RegisterWrite) → Touches t w → location w ≡ t) → SameAt t S (record base { unat = u })
   same_plain b h k r g t e d = go (same_apply t ws (record base { unat = u }))
     where

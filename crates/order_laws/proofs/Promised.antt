@@ -26,7 +26,7 @@ other_holds r x y h = of (x == y)
     of true = holds_zero r
     of false = h
 
--- The second of a pair, as it is written, is 1 where the other one of the pair and the first are.
+-- and the other way, where the first is 1 too
 second_holds : (r : Registers) (x y : ℕ) → holds r x ≡ true → holds r (other_of x y) ≡ true → holds r y ≡ true
 second_holds r x y h k = of (x == y) refl k
   where

@@ -19,7 +19,7 @@ use Rattle.order_laws.proofs.FirstSlots.{whole}
 pub group_ordered : GroupIsOrdered
 group_ordered p code s w program free known = whole p program free code (RUN_LIMIT - 1) s w known
 
--- The next group of a run leaves the same in all orders.
+-- and so is the next group of a run
 pub next_group_ordered : NextGroupIsOrdered
 next_group_ordered n p code s program free start =
     let k = runs_are_known n p s program start in group_ordered p code (seq_run p n s).state k.0 program free k.1

@@ -74,7 +74,7 @@ targets_stand p code s w xs ys x program free known e plain =
         subst (λ r. Stands r v) (sym (orders code all.writes start way.fits (inl way.inside)))
         (writes_stand v all.writes start way.fits (inl way.inside) (one v written) way.cells written)
 
--- The targets stand in the next group of a run.
+-- and so it is in the next group of a run
 pub next_targets_stand : NextTargetsStand
 next_targets_stand n p code s xs ys x program free start e plain =
     let k = runs_are_known n p s program start in targets_stand p code (seq_run p n s).state k.0 xs ys x program free k.1 e plain

@@ -11,7 +11,7 @@ use Rattle.ia_meaning.specs.Writes.{put, apply}
 use Rattle.resource_sets.specs.AccessLaws.{Location, StaticAt, CellAt, PredicateAt, BranchAt, TheUnat, ThePfs, TheLc, TheEc, TheFrame, location}
 use Rattle.order_laws.specs.OrderLaws.{FitsBeside, FitTogether}
 
--- The same stands at a location in both registers.
+-- the same stands there
 abbrev pub SameAt : Location → Registers → Registers → Type 0
 SameAt (StaticAt n) r s = get_or r.statics n zero_cell ≡ get_or s.statics n zero_cell
 SameAt (CellAt n) r s = get_or r.cells n zero_cell ≡ get_or s.cells n zero_cell

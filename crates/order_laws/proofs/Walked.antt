@@ -40,7 +40,7 @@ no_target (Call b1 (Indirect b2)) bundle to h e = cc
 no_target (Return b2) bundle to h e = cc
 no_target f bundle to h e = cc
 
--- A step that lands follows no edge.
+-- so a step that lands follows no edge
 landed : (p : Program) (from to : Place) (o : Option Insn) (h : Option How) → insn_at p.bundles from ≡ o → is_landing o h ≡ true → HasEdge p from (edge_by h) to → ⊥
 unfolding edge_end
 landed p from to None h here l edge = cc
@@ -175,7 +175,7 @@ further : (a b : ℕ) (p : Program) (t : Trace) → trace_further (a + b) p t �
 further zero b p t = ap (λ n. trace_further n p t) (let e : 0 + b ≡ b = omega arith in e)
 further (suc a) b p t = ap (λ n. trace_further n p t) (let e : suc a + b ≡ suc (a + b) = omega arith in e) ∙ further a b p (trace_on p t)
 
--- A trace comes to a state with this end.
+-- it comes to a state with this end
 record ComesTo (p : Program) (t : Trace) (s : State) (e : Option End) : Type 0 where
   count : ℕ
   state : (trace_further count p t).state ≡ s
@@ -231,7 +231,7 @@ runs_keep_state n p s program start =
     let known = known_on_runs k.0 p s program start in
     subst (IsState p) k.1 known.state
 
--- What is known on a walk to a state of a run is true of the state.
+-- and what is known on a walk to it is true
 pub runs_are_known : RunsAreKnown
 runs_are_known n p s program start =
     let k = run_is_traced n p s in

@@ -29,12 +29,12 @@ use Rattle.order_laws.proofs.NoClashes.{no_alloc}
 use Rattle.order_laws.proofs.GroupOrders.{state_of, IsGroupOnWalk, Joins, on_next, plain_step, plain_joins}
 use Rattle.order_laws.proofs.FirstSlots.{begun_on, alloc_step, alloc_joins, alloc_outcome}
 
--- What is known of the slots that a group is gathered of.
+-- the slots that a group is gathered of
 pub record IsGathered (p : Program) (g : Gathered) : Type 0 where
   pub past : List Place
   pub way : IsGathering p past g.base g.writes g.unat
 
--- What is shown of the rest of a group behind some slot.
+-- what is shown of the rest of a group, which some slot came before
 abbrev RestIsGathered : Program → ℕ → Type 0
 RestIsGathered p most =
     (g : Gathered) (past : List Place) (w : Walk) → IsGroupOnWalk p g past w → (i : Place) → Contains (earlier_in_group p w) i

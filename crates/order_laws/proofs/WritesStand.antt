@@ -21,7 +21,7 @@ goes_last x [] m = absurd m
 goes_last x (y ∷ ys) (inl e) = (ys, subst (λ z. IsPermutation (z ∷ ys) (ys ++ x ∷ [])) e (IsPermutation-sym (ys ++ x ∷ []) (x ∷ ys) (IsPermutation-to_front ys x)))
 goes_last x (y ∷ ys) (inr m) = let l = goes_last x ys m in (y ∷ l.0, IsPermutation-cons y ys (l.0 ++ x ∷ []) l.1)
 
--- A write may be made last.
+-- so may a write
 made_last : (v : Write) (ws : List Write) (r : Registers) → FitTogether ws → IsReady r ws → Mem v ws → (us : List Write) × (apply ws r ≡ put v (apply us r))
 made_last v ws r fits ready m =
     let l = goes_last v ws m in

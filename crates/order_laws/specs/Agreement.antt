@@ -42,7 +42,7 @@ pub record SeesTheStart (insn : Insn) (seen base : Registers) : Type 0 where
 abbrev pub AllSeeTheStart : Type 0
 AllSeeTheStart = (insn : Insn) (now base : Registers) → SeesTheStart insn (view insn now base) base
 
--- n steps further.
+-- n steps further
 abbrev pub steps_on : ℕ → Program → State → State
 steps_on zero p s = s
 steps_on (suc n) p s = steps_on n p (seq_step p s).state
@@ -51,13 +51,13 @@ abbrev pub if_some : Option Gathered → (Gathered → Option Gathered) → Opti
 if_some None f = None
 if_some (Some g) f = f g
 
--- The group with one more slot, where it goes on after it.
+-- the group with one more slot, where it goes on after it
 abbrev pub on_by : Program → Bool → Gathered → Outcome → Next → Option Gathered
 on_by p first g o Falls =
     if is_stopped p.bundles g.place then None else Some (gathers first g o (place_after g.place (next_of p.bundles g.place)))
 on_by p first g o way = None
 
--- The group with n more slots, where it goes on after them.
+-- the group with n more slots, where it goes on after them
 abbrev pub slots_on : ℕ → Program → Bool → Gathered → Option Gathered
 slots_on zero p begins g = Some g
 slots_on (suc n) p begins g =
@@ -67,16 +67,16 @@ slots_on (suc n) p begins g =
 
 -- A group under way, all at once, and the state that its slots leave one by one.
 pub record Agrees (p : Program) (g : Gathered) (s : State) : Type 0 where
-  -- The writes so far, in every order, leave the registers of the state.
+  -- the writes so far, in every order, leave the registers of the state
   pub registers : (ws : List Write) → IsPermutation g.writes ws → apply ws (record g.base { unat = g.unat }) ≡ s.registers
   pub memory : g.memory ≡ s.memory
   pub place : g.place ≡ s.place
-  -- The next slot does the same from its view and from the state.
+  -- the next slot does the same from its view and from the state
   pub outcome : (insn : Insn) → insn_at p.bundles s.place ≡ Some insn → slot_outcome p g (Some insn) ≡ outcome_of p s insn
-  -- The UNAT that goes from slot to slot is another one only after a move to UNAT.
+  -- the UNAT that goes from slot to slot is another one only after a move to UNAT
   pub unat : (g.unat ≡ s.registers.unat) ⊎ ((w : Write) × Contains g.writes w × (location w ≡ TheUnat))
 
--- Each group under way of a program without violations agrees with the state that its slots leave one by one.
+-- So it is in each group of a program without violations.
 abbrev pub ViewsAgree : Type 0
 ViewsAgree =
     (n : ℕ) (p : Program) (s : State) (w : Walk) (g : Gathered) → IsProgram p → HasNoViolation p → IsKnown p s w

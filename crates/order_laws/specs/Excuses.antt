@@ -14,18 +14,18 @@ abbrev pub accesses_in : Option Insn → List Access
 accesses_in None = []
 accesses_in (Some insn) = accesses insn
 
--- The accesses of the instruction at a place.
+-- the accesses of the instruction at a place
 unfoldable pub accesses_at : Graph → Place → List Access
 accesses_at g place = accesses_in (insn_in g place)
 
--- The place is the latest of a group that is listed with the latest first.
+-- the place is the latest of a group that is listed with the latest first
 abbrev pub IsLatest : List Place → Place → Type 0
 IsLatest [] place = ⊥
 IsLatest (latest ∷ earlier) place = latest ≡ place
 
--- Two accesses are excused on the walk: they are never both made. The first is in slot i of the group, the second in the walk's
--- last slot, each under its guard. The guards are known not to be both 1 at the walk's end, and no slot of the group from i on
--- and before the last may write the guard of the first.
+-- On the walk two accesses under these guards, the first in slot i of the group and the second in the walk's last slot, are
+-- never both made: the guards are known not to be both 1 at the walk's end, and no slot of the group from i on and before
+-- the last may write the guard of the first.
 pub record IsExcused (g : Graph) (has_stop : Place → Bool) (w : Walk) (i : Place) (first second : ℕ) : Type 0 where
   pub known : facts_in g w first second ≡ true
   pub unwritten : (k : Place) → Contains (group_since has_stop w) k → ¬ IsBefore k i → may_write_guard first (accesses_at g k) ≡ false

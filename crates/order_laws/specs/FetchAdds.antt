@@ -20,7 +20,7 @@ use Rattle.order_laws.specs.GroupSlots.{GatheredSlot, slots_of, done_by}
 use Rattle.order_laws.specs.Targets.{Stands}
 use Rattle.order_laws.specs.OrderExamples.{plain, idle, mmi, cell, start, registers_of, static_of}
 
--- A fetch-and-add of a size under p0 to an address, with an increment.
+-- a fetch-and-add of a size under p0 to an address, with an increment
 pub record IsFetchAdd (size address : ℕ) (inc : ℤ) (x : GatheredSlot) : Type 0 where
   pub r1 : ℕ
   pub r3 : ℕ
@@ -30,7 +30,7 @@ pub record IsFetchAdd (size address : ℕ) (inc : ℤ) (x : GatheredSlot) : Type
   pub looked : look x.before.base r3 ≡ Some base
   pub there : base.value ≡ address
 
--- A slot that accesses no memory, by its action, or since its qualifying predicate is 0 for it.
+-- a slot that accesses no memory, by its action, or since its qualifying predicate is 0 for it
 abbrev pub IsNoAccess : GatheredSlot → Type 0
 IsNoAccess x = holds (view x.insn (now_of x.before) x.before.base) x.insn.qp ≡ true → accesses_memory (insn_action x.insn) ≡ false
 
@@ -42,12 +42,12 @@ AreFetchAdds size address (inc ∷ incs) (x ∷ xs) =
     (IsNoAccess x × AreFetchAdds size address (inc ∷ incs) xs)
     ⊎ (IsFetchAdd size address inc x × AreFetchAdds size address incs xs)
 
--- What was there, and the increments, modulo 2 to the power of the bits.
+-- what was there, and the increments, modulo 2 to the power of the bits
 abbrev pub sum_of : ℕ → ℕ → List ℤ → ℕ
 sum_of size old [] = old
 sum_of size old (inc ∷ incs) = sum_of size (exchanged size (Some inc) old 0) incs
 
--- A slot gives its target this number, without NaT.
+-- a slot gives its target this number, without NaT
 abbrev pub Finds : Program → ℕ → ℕ → GatheredSlot → Type 0
 Finds p n r1 x =
     (d : Spot) × ((spot x.before.base.frame r1 ≡ Some d) × ((done_by p x).writes ≡ set_spot d (record { value = n; nat = false }) []))

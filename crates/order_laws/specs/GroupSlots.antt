@@ -14,7 +14,7 @@ use Rattle.ia_meaning.specs.Sequence.{next_of, is_stopped}
 use Rattle.ia_meaning.specs.Steps.{place_after}
 use Rattle.ia_meaning.specs.ParallelGroups.{Gathered, gathered_from, slot_outcome, gathers, gathered}
 
--- A slot of a group, and the group as far as the slots before it are gathered.
+-- a slot of a group, and the group as far as the slots before it are gathered
 pub record GatheredSlot : Type 0 where
   pub insn : Insn
   pub before : Gathered
@@ -40,11 +40,11 @@ slots_within (suc most) p begins g =
 abbrev pub slots_of : Program → State → List GatheredSlot
 slots_of p s = slots_within RUN_LIMIT p true (gathered_from s)
 
--- What a slot of a group does.
+-- what a slot of a group does
 abbrev pub done_by : Program → GatheredSlot → Outcome
 done_by p x = slot_outcome p x.before (Some x.insn)
 
--- Nothing but the place is another.
+-- nothing but the place is another
 pub record IsSame (g h : Gathered) : Type 0 where
   pub base : h.base ≡ g.base
   pub frames : h.frames ≡ g.frames
@@ -59,7 +59,7 @@ pub record OneSlot (p : Program) (begins : Bool) (g : Gathered) (x : GatheredSlo
   pub cause : first ≡ true → (begins ≡ true) × (allocates (Some x.insn) ≡ true)
   pub to : Place
 
--- The slots lead from a group so far to another.
+-- the slots lead from a group so far to another
 abbrev pub Leads : Program → Bool → Gathered → List GatheredSlot → Gathered → Type 0
 Leads p begins g [] h = IsSame g h
 Leads p begins g (x ∷ xs) h = (s : OneSlot p begins g x) × Leads p false (gathers s.first x.before (done_by p x) s.to) xs h

@@ -75,11 +75,11 @@ start p r1 = record (zero_state p) {
   };
 }
 
--- The registers after the first group, all at once under a code.
+-- the registers after the first group, all at once under a code
 abbrev pub registers_of : Program → List ℕ → State → Registers
 registers_of p code s = (par_group p code s).state.registers
 
--- A static register of them.
+-- a static register of them
 abbrev pub static_of : ℕ → Registers → Cell
 static_of n r = get_or r.statics n zero_cell
 
@@ -194,8 +194,7 @@ jump = plain (op.BrInd 1 0 false false)
 abbrev pub moved_branch : Program
 moved_branch = mib (plain (op.Nop M 0)) (plain (op.MovToBr 1 1 false false 0 (pos 0))) jump
 
--- A branch by b1, which becomes the address in r1 in its group, lands on bundle 0. By the group's start, where b1 is 0, it would
--- land nowhere.
+-- It lands on bundle 0; by the group's start, where b1 is 0, it would land nowhere.
 abbrev pub BranchRegister : Type 0
 BranchRegister =
     ((par_group moved_branch [] (start moved_branch (cell 0x10000))).how ≡ Some Taken)
@@ -215,7 +214,7 @@ ReturnState =
     × ((registers_of moved_return (2 ∷ 0 ∷ 0 ∷ []) (start moved_return (cell 0))).cells ≡ zero_cell ∷ [])
     × ((outcome_at_start moved_return 2 return (start moved_return (cell 0))).writes ≡ SetFrame Resized (marked_frame 0 0) ∷ SetEc 0 ∷ [])
 
--- p6 becomes 1 by an or-compare of r0 with itself, and again.
+-- p6 becomes 1 by an or-compare of r0 with itself, and again
 abbrev pub or_compares : Program
 or_compares = mii (plain (op.Cmp false Eq Or 6 0 0 0)) (plain (op.Cmp false Eq Or 6 0 0 0)) idle
 
@@ -276,7 +275,7 @@ later_writes = record {
   relations = [];
 }
 
--- The zero state, but p6 is 1.
+-- the zero state, but p6 is 1
 abbrev pub with_p6 : Program → State
 with_p6 p = record (zero_state p) {
   registers = record zero_registers { predicates = true ∷ replicate 5 false ++ true ∷ replicate 57 false };

@@ -24,7 +24,7 @@ abbrev pub FitTogether : List Write → Type 0
 FitTogether [] = Unit {0}
 FitTogether (w ∷ ws) = Each (FitsBeside w) ws × FitTogether ws
 
--- A cell that is written is below a count.
+-- a cell that is written is below a count
 abbrev pub IsCellBelow : ℕ → Write → Type 0
 IsCellBelow n (SetCell c x) = c < n
 IsCellBelow n w = Unit {0}
@@ -32,7 +32,7 @@ IsCellBelow n w = Unit {0}
 abbrev pub IsNoFrame : Write → Type 0
 IsNoFrame w = location w ≢ TheFrame
 
--- No cell is written past the end, or no frame is written.
+-- no cell is written past the end, or no frame is written
 abbrev pub IsReady : Registers → List Write → Type 0
 IsReady r ws = Each (IsCellBelow (length r.cells)) ws ⊎ Each IsNoFrame ws
 
@@ -40,7 +40,7 @@ IsReady r ws = Each (IsCellBelow (length r.cells)) ws ⊎ Each IsNoFrame ws
 abbrev pub OrdersLeaveTheSame : Type 0
 OrdersLeaveTheSame = (code : List ℕ) (ws : List Write) (r : Registers) → FitTogether ws → IsReady r ws → apply (arranged code ws) r ≡ apply ws r
 
--- Writes that fit together change the same frames in every order.
+-- So do the frames that they change.
 abbrev pub OrdersChangeFramesTheSame : Type 0
 OrdersChangeFramesTheSame = (code : List ℕ) (ws : List Write) → FitTogether ws → frame_changes (arranged code ws) ≡ frame_changes ws
 
@@ -50,7 +50,7 @@ abbrev pub GroupIsOrdered : Type 0
 GroupIsOrdered =
     (p : Program) (code : List ℕ) (s : State) (w : Walk) → IsProgram p → HasNoViolation p → IsKnown p s w → par_group p code s ≡ seq_group p s
 
--- The next group of each run from a start state, all at once and in any order, leaves what its slots leave one by one.
+-- So does the next group of each run from a start state.
 abbrev pub NextGroupIsOrdered : Type 0
 NextGroupIsOrdered =
     (n : ℕ) (p : Program) (code : List ℕ) (s : State) → IsProgram p → HasNoViolation p → IsStart p s

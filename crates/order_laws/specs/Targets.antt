@@ -14,7 +14,7 @@ use Rattle.order_laws.specs.Violations.{HasNoViolation}
 use Rattle.order_laws.specs.Traces.{IsKnown}
 use Rattle.order_laws.specs.GroupSlots.{GatheredSlot, slots_of, done_by}
 
--- What a write of a general register gives it is there, if it is in the frame.
+-- what a write of a general register gives it is there, if it is in the frame
 abbrev pub Stands : Registers → Write → Type 0
 Stands r (SetStatic n c) = get_or r.statics n zero_cell ≡ c
 Stands r (SetCell n c) = n < r.frame.base + r.frame.sof → get_or r.cells n zero_cell ≡ c
@@ -28,8 +28,7 @@ TargetsStand =
     → IsProgram p → HasNoViolation p → IsKnown p s w → slots_of p s ≡ xs ++ x ∷ ys → is_alloc (insn_action x.insn) ≡ false
     → Each (Stands (par_group p code s).state.registers) (done_by p x).writes
 
--- In every order of the writes of the next group of each run from a start state, what a slot other than an `alloc` gives a
--- general register is there after the group.
+-- So it is in the next group of each run from a start state.
 abbrev pub NextTargetsStand : Type 0
 NextTargetsStand =
     (n : ℕ) (p : Program) (code : List ℕ) (s : State) (xs ys : List GatheredSlot) (x : GatheredSlot)

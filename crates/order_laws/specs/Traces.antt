@@ -15,7 +15,7 @@ use Rattle.predicate_rel.specs.Truth.{AreNeverBothOne}
 use Rattle.flow_facts.specs.Walks.{Walk, begins, goes_on, EndsAt, facts_on, earlier_in_group, Known, known_at, IsSolution}
 use Rattle.predicate_rel.specs.Steps.{edge_by}
 
--- The slot is an indirect branch, a return or an indirect call, and it is taken.
+-- the slot is an indirect branch, a return or an indirect call, and it is taken
 abbrev pub is_landing : Option Insn → Option How → Bool
 is_landing None h = false
 is_landing (Some insn) None = false
@@ -68,18 +68,18 @@ pub record IsKnown (p : Program) (s : State) (w : Walk) : Type 0 where
   pub ends : EndsAt p s.place w
   pub apart : AreNeverBothOne (facts_on p w) s.registers
 
--- All along each run from a start state, what its walk knows is true of the state.
+-- So it is all along each run from a start state.
 abbrev pub KnownOnRuns : Type 0
 KnownOnRuns =
     (n : ℕ) (p : Program) (s : State) → IsProgram p → IsStart p s → IsKnown p (traced n p s).state (traced n p s).walk
 
--- A step keeps what the walk knows true of the state.
+-- A step keeps it so.
 abbrev pub StepsKnown : Type 0
 StepsKnown =
     (p : Program) (s : State) (w : Walk) → IsProgram p → IsKnown p s w → (seq_step p s).end ≡ None
     → IsKnown p (seq_step p s).state (walk_after p s w (seq_step p s))
 
--- The places of a group after one more, which may be its last.
+-- the places of a group after one more, which may be its last
 abbrev pub group_after : Option How → Place → List Place → List Place
 group_after None place earlier = place ∷ earlier
 group_after (Some h) place earlier = []

@@ -29,7 +29,7 @@ pub record Clashes (g : Graph) (i j : Place) (rule : Rule) (q : Resource) : Type
   pub second_on : second.resource ≡ q
   pub clash : clash first second ≡ Some rule
 
--- Slot i and the walk's last slot clash by the rule on the resource, and nothing excuses that on the walk.
+-- So they do with the walk's last slot, and are not excused on the walk.
 pub record ClashesUnexcused (g : Graph) (has_stop : Place → Bool) (w : Walk) (i : Place) (rule : Rule) (q : Resource) : Type 0 where
   pub clashes : Clashes g i (end_of w) rule q
   pub stays : ¬ IsExcused g has_stop w i clashes.first.guard clashes.second.guard
@@ -43,17 +43,17 @@ abbrev pub clears_in : Option Insn → Bool
 clears_in None = false
 clears_in (Some insn) = clears (insn_action insn)
 
--- The place holds an `alloc`.
+-- the place holds an `alloc`
 unfoldable pub allocates_at : Graph → Place → Bool
 allocates_at g place = allocates (insn_in g place)
 
--- The place holds a `clrrrb` or `clrrrb.pr`.
+-- the place holds a `clrrrb` or `clrrrb.pr`
 unfoldable pub clears_at : Graph → Place → Bool
 clears_at g place = clears_in (insn_in g place)
 
--- Slot i of the walk's group and the walk's last slot break the rule. Only reads and writes after writes may be excused. An
--- `alloc` has to be first in its group, and a `clrrrb` last. The pair that is reported is an `alloc` with the slot just before
--- it, or a `clrrrb` with the slot just after it.
+-- Slot i, of the walk's group, and the walk's last slot break the rule. Only reads and writes after writes may be excused.
+-- An `alloc` may have no slot before it in its group, and a `clrrrb` none after it; of `alloc` only the slot just before it,
+-- and of `clrrrb` only the slot just after it, makes the pair that is reported.
 abbrev pub Breaks : Graph → (Place → Bool) → Walk → Place → Rule → Resource → Type 0
 Breaks g has_stop w i Raw q = ClashesUnexcused g has_stop w i Raw q
 Breaks g has_stop w i Waw q = ClashesUnexcused g has_stop w i Waw q
@@ -61,7 +61,7 @@ Breaks g has_stop w i War63 q = Clashes g i (end_of w) War63 q
 Breaks g has_stop w i AllocFirst q = (allocates_at g (end_of w) ≡ true) × IsLatest (group_since has_stop w) i × (q ≡ Cfm)
 Breaks g has_stop w i ClearLast q = (clears_at g i ≡ true) × IsLatest (group_since has_stop w) i × (q ≡ Cfm)
 
--- On some walk to the second slot, with the first one earlier in its group, the two break the rule. A stop follows the places
+-- On some walk to the second slot, with the first earlier in its group, the two break the rule. A stop follows the places
 -- that have one.
 pub record ViolatesIn (g : Graph) (has_stop : Place → Bool) (v : Violation) : Type 0 where
   pub walk : Walk
@@ -69,7 +69,7 @@ pub record ViolatesIn (g : Graph) (has_stop : Place → Bool) (v : Violation) : 
   pub inside : Contains (group_since has_stop walk) v.first
   pub breaks : Breaks g has_stop walk v.first v.rule v.resource
 
--- The two slots break the rule in a program with its own stops.
+-- So they do in a program with its stops.
 abbrev pub Violates : Program → Violation → Type 0
 Violates p v = ViolatesIn (over_program p) (is_stopped p.bundles) v
 

@@ -9,9 +9,9 @@ ghost use Rattle.order_laws.specs.Targets.{TargetsStand, NextTargetsStand};
 ghost use Rattle.order_laws.specs.FetchAdds.{FetchAddsFindSums, FetchAddsAreSummed, FetchAddTargetsStand, TwoFetchAdds};
 ghost use Rattle.order_laws.specs.OrderExamples.{TwoOrders, TwoMoves, FirstAlloc, LateAlloc, BranchPredicate, BranchRegister, ReturnState, ParallelCompares, MemoryOrder, SpillsAndFills, LaterWrites};
 
-/// What a run has to do with walks, along each sequential run from a start state. The slots since the start, or since an indirect
-/// branch was last taken, are a walk to the state's place. What the walk's entry declares is known where the walk begins. The
-/// predicates of no pair that is known on the walk are both 1. The group of the walk is that of the run.
+/// Along each sequential run from a start state, the slots since the start, or since an indirect branch
+/// was last taken, are a walk to the state's place, and the predicates of no pair that is known on it are
+/// both 1. What its entry declares is known where it begins. The group of the walk is that of the run.
 pub fn law_walk()
     ensures known { KnownOnRuns }
     ensures steps { StepsKnown }
@@ -22,20 +22,20 @@ pub fn law_walk()
     ensures table { SolutionIsTrue }
 {}
 
-/// A slot sees the registers of the group's start. A branch sees four things as earlier slots left them: its qualifying
-/// predicate, p1 to p15 where it is indirect, the branch register that holds its target, and what a return reads of the previous
-/// function state.
+/// A slot that is no branch sees the registers of the group's start, and so does a branch, but for its qualifying
+/// predicate, p1 to p15 where it is indirect, the branch register that holds its target, and what a return reads of
+/// the previous function state.
 ///
-/// In each group of a program without violations the writes so far, in every order, leave the state that the slots leave one by
-/// one, and the next slot does the same from its view and from that state.
+/// In each group of a program without violations the writes so far, in every order, leave the state that the slots
+/// leave one by one, and the next slot does the same from its view and from that state.
 pub fn law_view()
     ensures others { OthersSeeTheStart }
     ensures start { AllSeeTheStart }
     ensures agree { ViewsAgree }
 {}
 
-/// Writes that fit together leave the same in every order. A group of a program without violations leaves in every order what its
-/// slots leave one by one, and so does each run.
+/// Writes that fit together leave the same in every order; those of each group of a program without violations do,
+/// and so does each run.
 pub fn law_orders()
     ensures registers { OrdersLeaveTheSame }
     ensures frames { OrdersChangeFramesTheSame }
@@ -46,19 +46,20 @@ pub fn law_orders()
 
 /// The slots of a group, one after the other, lead to what is gathered of it.
 ///
-/// What a slot other than an `alloc` gives a general register is there after its group, in every order of the group's writes,
-/// unless it is a cell past the end of the frame then. That holds in each group of a program without violations: from each state
-/// to which a walk leads whose facts are true there, and so in the next group of each run from a start state.
+/// In each group of a program without violations, from each state to which a walk leads whose facts are true there, in every
+/// order of its writes, what a slot other than an `alloc` gives a general register is there after the group, but in a cell
+/// that is past the end of the frame then; and so it is in the next group of each run from a start state.
 pub fn law_targets()
     ensures slots { SlotsLead }
     ensures group { TargetsStand }
     ensures next { NextTargetsStand }
 {}
 
-/// The law of groups whose only accesses to memory are fetch-and-adds of one size under p0 to one address. Each finds there what
-/// was there before the group, with the increments of the earlier ones. The group leaves there the sum with all of them, in every
-/// order of its writes. Sums are modulo 2 to the power of their bits. What such a slot gives its target is there after the group,
-/// as what each slot gives a general register is ([`law_targets`]). A group of two is an example.
+/// Where the memory accesses of a group are fetch-and-adds of one size under p0 to one address, each finds there what was
+/// there before the group, and the increments of the earlier ones; and the group leaves there the sum with all of them,
+/// modulo 2 to the power of the bits, in every order of its writes. What a fetch-and-add under p0 gives its target is there
+/// after the group, as what each slot gives a general register is ([`law_targets`]). An example is a group of two, which is
+/// one of these groups.
 pub fn law_fetch_adds()
     ensures values { FetchAddsFindSums }
     ensures memory { FetchAddsAreSummed }

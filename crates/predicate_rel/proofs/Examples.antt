@@ -11,8 +11,8 @@ use Rattle.ia_meaning.specs.declared.action.Action.TheVariants as action
 use Rattle.predicate_rel.specs.declared.edge.Edge.TheVariants.{Falls, Taken}
 use Rattle.predicate_rel.specs.Rules.{always, never, one, two, action_rule}
 
--- a normal test of p6 and p7: a target and another predicate, in both orders; a target and p0, in both spellings; the two
--- targets; two others
+-- a normal test of p6 and p7: a target and another predicate, in both orders; a target and p0, in both spellings; the two targets;
+-- two others
 normal : action_rule (action.Test cmp.Normal 6 7 0 0 NatIsZero) Falls 8 6 9 ≡ two 6 9 8 9
 normal = refl
 

@@ -58,7 +58,7 @@ pairs_same a b out out' inside = fun_ext (λ x. fun_ext (λ y. by_range x y (cas
 abbrev pub IsWholly : Pairs → Pairs → (ℕ → Bool) → Pairs → Type 0
 IsWholly old past is_in now = IsNarrowed old past is_in (λ x. false) now
 
--- A set is narrowed wholly where no row below 64 is left.
+-- so it is where none is left of those below 64
 pub narrowed_wholly : (old past now : Pairs) (is_in is_left : ℕ → Bool) → ((x : ℕ) → x < 64 → is_left x ≡ false) → IsNarrowed old past is_in is_left now → IsWholly old past is_in now
 narrowed_wholly old past now is_in is_left none h = record {
   inside = λ x l e. absurd (true≢false (sym e));
@@ -86,7 +86,7 @@ narrowed_more old new past earlier rows h agree within = narrowed_common old new
     by_case x y n (inl t) = t ∙ (rw (t, sym (agree.same x y n) ∙ within.each x y t) refl)
     by_case x y n (inr f) = f ∙ sym (and_left (pairs_of old x y) (past x y) f)
 
--- A narrowed set has no more than it had, and all that both have.
+-- It has no more than it had, and all that both have.
 pub narrowed_no_more : (old new : Table) (past : Pairs) (is_in : ℕ → Bool) → IsWholly (pairs_of old) past is_in (pairs_of new) → IsWithin (pairs_of new) (pairs_of old)
 narrowed_no_more old new past is_in h = record { each = λ x y t. by_range x y t (cases_Bool (in_range x y)) }
   where
@@ -135,7 +135,7 @@ narrows_rows rules changed reached before old new lost h more agrees others some
   more = some;
 }
 
--- A set that is narrowed in all rows is so as the contract of `narrow` says.
+-- and where they are all that there are
 pub narrows_all : (rules : ℕ → ℕ → PairRule) (changed : ℕ) (before : Pairs) (old new : Table) (lost : ℕ) → IsWholly (pairs_of old) (pairs_by before rules) (has_bit 18446744073709551615) (pairs_of new)
     → AgreeOutside lost (pairs_of old) (pairs_of new) → (lost ≢ 0 → HasMore (pairs_of old) (pairs_of new)) → Narrows rules changed before (pairs_of old) (pairs_of new) lost
 narrows_all rules changed before old new lost h others some =
@@ -200,7 +200,7 @@ row_written rows k word row sized below bits x y = by_range (cases_Bool (in_rang
     by_range (inl t) = let p = in_range_parts x y t in pairs_of_in (set rows k word) x y p.0 p.1 ∙ inside p.0 p.1 (cases_eq x k) ∙ ap (λ (b : Bool). b && (not (eqb x k) || has_bit row y)) (sym (pairs_of_in rows x y p.0 p.1))
     by_range (inr out) = pairs_of_out (set rows k word) x y out ∙ sym (and_left (pairs_of rows x y) _ (pairs_of_out rows x y out))
 
--- What the row had and the other one hasn't is lost.
+-- and what it had and the other row hasn't is lost
 pub row_more : (rows : Table) (k word row y : ℕ) → length rows ≡ 64 → k < 64 → y < 64 → ((y : ℕ) → y < 64 → has_bit word y ≡ (pairs_of rows k y && has_bit row y)) → pairs_of rows k y ≡ true → has_bit row y ≡ false → HasMore (pairs_of rows) (pairs_of (set rows k word))
 row_more rows k word row y sized below l bits there missing = record {
   first = k;

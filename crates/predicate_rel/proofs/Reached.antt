@@ -119,7 +119,7 @@ action_same (action.Loop kind disp) edge g w x y f h agree none =
     loop_same kind edge x y f h (λ z. agree.same x z parts.0) (before_same w x f h agree parts.0 parts.1)
 action_same a edge g w x y f h agree none = agree.same x y none
 
--- What follows from two sets agrees in the rows in which none of the differing rows has a part.
+-- So what follows from two sets agrees in the rows in which none has a part.
 pub agree_past : (a : Action) (g w r : ℕ) → ((x : ℕ) → x < 64 → has_bit r x ≡ false → has_part a g w x ≡ false) → (edge : Edge) (f h : Pairs) → AgreeOutside w f h → AgreeOutside r (pairs_by f (action_rule a edge g)) (pairs_by h (action_rule a edge g))
 agree_past a g w r parts edge f h agree = record { same = λ x y none. by_range x y none (in_range x y) refl }
   where

@@ -69,7 +69,7 @@ KeepsOn f action g now (next.Goes to) = IsSome (displacement_of action) → IsRu
 KeepsOn f action g now (next.Breaks imm) = ⊤
 KeepsOn f action g now (next.Faults kind) = ⊤
 
--- What an outcome leaves is true where control goes on.
+-- so is what an outcome leaves
 abbrev Keeps : Pairs → Action → ℕ → Registers → Outcome → Type 0
 Keeps f action g r o = KeepsOn f action g (registers_after o r) o.next
 

@@ -57,7 +57,7 @@ kept_swaps Own g x y u f un = un.swaps x y
 kept_swaps Guard g x y u f un = refl
 kept_swaps Both g x y u f un = ap (λ (b : Bool). b && f g u) (un.swaps x y)
 
--- A choice between four rules may be swapped.
+-- so a choice between four may be swapped
 choice_swaps : (a b : Bool) (r r' s s' t t' n n' : PairRule) (f : Pairs) → is_met r f ≡ is_met r' f → is_met s f ≡ is_met t' f → is_met t f ≡ is_met s' f → is_met n f ≡ is_met n' f → is_met (by_written a b r s t n) f ≡ is_met (by_written b a r' s' t' n') f
 choice_swaps true true r r' s s' t t' n n' f h i j k = h
 choice_swaps true false r r' s s' t t' n n' f h i j k = i

@@ -11,10 +11,9 @@ pub record AgreeOutside (changed : ℕ) (f g : Pairs) : Type 0 where
 abbrev pub HasAllRows : ℕ → Type 0
 HasAllRows changed = (x : ℕ) → x < 64 → has_bit changed x ≡ true
 
--- The old set is cut down to what these rules leave of `before`. That is exact where the word has all rows. It is exact too where
--- the old set is within what the rules leave of an older set, which had other pairs than `before` in no rows but those of the
--- word. In any case the set gets no pair, and loses none that the rules leave. It loses pairs in no rows but those of the last
--- word, and some where that has one.
+-- The old set is left what these rules leave of `before`, where the word has all rows, or where the old set is within what
+-- they leave of an older set that had other pairs than `before` in no rows but those of the word. Else it may keep more, but
+-- it gets no pair, nor loses one that the rules leave. It loses pairs in no rows but those of the last word, and some where that has one.
 pub record Narrows (rules : ℕ → ℕ → PairRule) (changed : ℕ) (before old new : Pairs) (rows : ℕ) : Type 0 where
   pub whole : HasAllRows changed → new ≡ common old (pairs_by before rules)
   pub narrowed : (older : Pairs) → AgreeOutside changed older before → IsWithin old (pairs_by older rules) → new ≡ common old (pairs_by before rules)

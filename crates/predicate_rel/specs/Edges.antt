@@ -40,7 +40,7 @@ displacement_of (Loop kind disp) = Some disp
 displacement_of (Call b1 (Direct disp)) = Some disp
 displacement_of action = None
 
--- Slot 0 of the bundle that is `disp` bundles from this one.
+-- slot 0 of the bundle that is so many from this one
 abbrev pub target_at : ℕ → Option ℤ → Option Place
 target_at bundle None = None
 target_at bundle (Some disp) = Some (first_of (target_of bundle disp))

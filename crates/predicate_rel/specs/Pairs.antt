@@ -10,7 +10,7 @@ Pairs = ℕ → ℕ → Bool
 abbrev pub Table : Type 0
 Table = List ℕ
 
--- Both numbers are those of predicates.
+-- both are predicates
 unfoldable pub in_range : ℕ → ℕ → Bool
 in_range x y = nat_lt x 64 && nat_lt y 64
 
@@ -18,7 +18,7 @@ in_range x y = nat_lt x 64 && nat_lt y 64
 unfoldable pub no_pairs : Pairs
 no_pairs = λ x y. false
 
--- The set of each pair of predicates.
+-- each pair of predicates
 unfoldable pub all_pairs : Pairs
 all_pairs = λ x y. in_range x y
 
@@ -50,7 +50,7 @@ truth rows x y = has_bit (slice_index rows x) y
 unfoldable pub pairs_of : Table → Pairs
 pairs_of rows = λ x y. in_range x y && truth rows x y
 
--- Each pair of f is in g.
+-- each pair of f is in g
 pub record IsWithin (f g : Pairs) : Type 0 where
   pub each : (x y : ℕ) → f x y ≡ true → g x y ≡ true
 

@@ -17,8 +17,8 @@ IsRow row rules f = (y : ℕ) → y < 64 → has_bit row y ≡ is_met (rules y) 
 abbrev pub IsApart : Pairs → ℕ → ℕ → Type 0
 IsApart f w x = (y : ℕ) → y < 64 → has_bit w y ≡ true → f x y ≡ false
 
--- An instruction of this action leaves, on the way along the edge, the pairs of each predicate that isn't one of the word's,
--- where neither one of these nor the qualifying predicate has a pair with it.
+-- An instruction of this action leaves, on the way along the edge, the pairs of each predicate that isn't one of the word's, where neither one of these
+-- nor the qualifying predicate has a pair with it.
 abbrev pub LeavesOthers : Action → Edge → ℕ → Type 0
 LeavesOthers a edge w =
     (g x : ℕ) (f : Pairs) → x < 64 → has_bit w x ≡ false → IsApart f w x → f g x ≡ false

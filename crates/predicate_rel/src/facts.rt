@@ -80,7 +80,7 @@ impl Facts {
         Facts { rows }
     }
 
-    /// The set with this pair too, in both orders; (x, x) is also (x, p0).
+    /// The same set and this pair, in both orders; (x, x) is also (x, p0).
     pub fn plus(&self, x: Pr, y: Pr) -> Facts
         ensures { pairs_of result ≡ with_pair (pairs_of self.now) x y }
     {
@@ -101,8 +101,7 @@ impl Facts {
         self.after_action(&action_of(&insn.op), insn.qp, edge)
     }
 
-    /// What is known after an instruction of this action under this qualifying predicate, from what is known before it, where
-    /// control goes on along the edge.
+    /// The same after an instruction of this action under this qualifying predicate.
     #[inline(never)]
     pub fn after_action(&self, action: &Action, qp: Pr, edge: Edge) -> Facts
         ensures { pairs_of result ≡ pairs_by (pairs_of self.now) (action_rule action.now edge qp) }
@@ -171,7 +170,7 @@ impl Facts {
         true
     }
 
-    /// Leaves of the set, in the rows of the word, the pairs that are also in the other. Returns a word of the rows that
+    /// Leaves of the set, in the rows of the word, the pairs that are also in the other. Answers a word of the rows that
     /// lost something, bit x that of the pairs of the x-th predicate.
     #[inline(always)]
     pub(crate) fn intersect(&mut self, other: &Facts, rows: u64) -> u64

@@ -71,7 +71,7 @@ impl Facts {
     }
 
     /// Leaves of the set what is also known past an instruction of this action under this qualifying predicate,
-    /// before which `before` is known, where control goes on along the edge. Returns a word of rows, bit x that
+    /// before which `before` is known, where control goes on along the edge. Answers a word of rows, bit x that
     /// of the pairs of the x-th predicate: the others lost nothing, and it is 0 where nothing was lost.
     ///
     /// So it is where `changed` has all rows, or where the set is within what followed from an older set, which

@@ -60,7 +60,7 @@ fn renamed(row: u64) -> u64
 }
 
 /// Whether the action is one whose instructions leave what is known as it is, where control goes on along the edge. Some
-/// for which it returns false do so too.
+/// for which it answers false do so too.
 pub fn keeps_pairs(action: &Action, edge: Edge) -> bool
     ensures { result ≡ true → (g x y : ℕ) → action_rule action.now edge g x y ≡ one x y }
 {
@@ -242,9 +242,9 @@ impl Facts {
         }
     }
 
-    /// The pairs of the x-th predicate, below 64, after an instruction of this action, which writes these predicates. They stay
-    /// as they are where the x-th isn't written, and neither a written predicate nor the qualifying one has a pair with it.
-    /// `asked` has the predicates that are written, or that have a pair with the qualifying one.
+    /// The pairs of the x-th predicate, below 64, after an instruction of this action, which writes these predicates. They
+    /// stay where it isn't one of them, and neither one of them nor the qualifying predicate has a pair with it: `asked` are
+    /// those that are written or have one with the qualifying predicate.
     #[inline(always)]
     pub(crate) fn row_past(
         &self,

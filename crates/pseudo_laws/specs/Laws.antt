@@ -46,29 +46,28 @@ Compares unc four_bytes relation machine first second =
     (p q a b : ℕ) → reads (compare_text four_bytes ++ relation ++ unc_text unc) (t.Pr p ∷ t.Comma ∷ t.Pr q ∷ t.Equals ∷ t.Gr a ∷ t.Comma ∷ t.Gr b ∷ [])
     ≡ Some (op.Cmp four_bytes machine (unc_kind unc) (first p q) (first q p) (second a b) (second b a))
 
--- The line `cmp.relation p,q=n,b`, or `cmp4`, of a number that has room in the field, is a compare of the machine with these
--- targets and this number.
+-- And the line `cmp.relation p,q=n,b` of a number that has room in the field is one with these targets and this number.
 abbrev ComparesNumber : Bool → Bool → List ℕ → NumberField → Rel → (ℕ → ℕ → ℕ) → (ℤ → ℤ) → Type 0
 ComparesNumber unc four_bytes relation field machine first lowered =
     (p q : ℕ) (negative : Bool) (n b : ℕ) → has_room field negative n ≡ true
     → reads (compare_text four_bytes ++ relation ++ unc_text unc) (t.Pr p ∷ t.Comma ∷ t.Pr q ∷ t.Equals ∷ t.Number negative n ∷ t.Comma ∷ t.Gr b ∷ [])
     ≡ Some (op.CmpImm four_bytes machine (unc_kind unc) (first p q) (first q p) (lowered (long negative n)) b)
 
--- As they are written, and exchanged.
+-- as they are written, and exchanged
 abbrev kept : ℕ → ℕ → ℕ
 kept x y = x
 
 abbrev exchanged : ℕ → ℕ → ℕ
 exchanged x y = y
 
--- A number as it is written, and lowered by one.
+-- a number as it is written, and lowered by one
 abbrev same : ℤ → ℤ
 same z = z
 
 abbrev one_less : ℤ → ℤ
 one_less z = z -ℤ pos 1
 
--- The compares of two registers.
+-- the compares of two registers
 pub record RegisterCompares (unc four_bytes : Bool) : Type 0 where
   pub eq : Compares unc four_bytes (codes ".eq") rel.Eq kept kept
   pub lt : Compares unc four_bytes (codes ".lt") rel.Lt kept kept
@@ -81,7 +80,7 @@ pub record RegisterCompares (unc four_bytes : Bool) : Type 0 where
   pub less : Compares unc four_bytes (codes ".le") rel.Lt exchanged exchanged
   pub leu : Compares unc four_bytes (codes ".leu") rel.Ltu exchanged exchanged
 
--- The compares of a number and a register.
+-- the compares of a number and a register
 pub record NumberCompares (unc four_bytes : Bool) : Type 0 where
   pub eq : ComparesNumber unc four_bytes (codes ".eq") Imm8 rel.Eq kept same
   pub lt : ComparesNumber unc four_bytes (codes ".lt") Imm8 rel.Lt kept same
@@ -92,7 +91,7 @@ pub record NumberCompares (unc four_bytes : Bool) : Type 0 where
   pub less : ComparesNumber unc four_bytes (codes ".le") Less8 rel.Lt kept one_less
   pub greater : ComparesNumber unc four_bytes (codes ".gt") Less8 rel.Lt exchanged one_less
 
--- The letter of a unit, which an L slot has not.
+-- the letter of a unit, which an L slot has not
 abbrev pub letter : ExecutionUnit → List ℕ
 letter unit.M = codes ".m"
 letter unit.I = codes ".i"
@@ -116,7 +115,7 @@ pub record MovesToBranches (ret imp : Bool) : Type 0 where
   pub none : MovesToBranch ret imp [] 1
   pub dynamic : MovesToBranch ret imp (codes ".dptk") 2
 
--- The others.
+-- the others
 pub record PseudoOperations : Type 0 where
   pub compares : (unc four_bytes : Bool) → RegisterCompares unc four_bytes
   pub number_compares : (unc four_bytes : Bool) → NumberCompares unc four_bytes
@@ -145,16 +144,16 @@ pub record PseudoOperations : Type 0 where
   pub mov_to_br : (ret imp : Bool) → MovesToBranches ret imp
   -- mov pr=r2, to all but p0
   pub mov_to_pr : (r2 : ℕ) → reads (codes "mov") (t.Predicates ∷ t.Equals ∷ t.Gr r2 ∷ []) ≡ Some (op.MovToPr r2 0x1fffe)
-  -- mov of an application register, without a unit.
+  -- mov of an application register, without a unit
   pub mov_to_ar : (a : Ar) (r2 : ℕ) → reads (codes "mov") (t.Ar a ∷ t.Equals ∷ t.Gr r2 ∷ []) ≡ Some (op.MovToAr a r2)
   pub mov_from_ar : (a : Ar) (r1 : ℕ) → reads (codes "mov") (t.Gr r1 ∷ t.Equals ∷ t.Ar a ∷ []) ≡ Some (op.MovFromAr r1 a)
   -- movl r1=label, whose number is 0 until the name is put in
   pub movl : (r1 : ℕ) → reads (codes "movl") (t.Gr r1 ∷ t.Equals ∷ t.Name ∷ []) ≡ Some (op.Movl r1 0)
-  -- `break`, `nop` and `hint` with a unit letter and without a number
+  -- break, nop and hint without a number
   pub break : (u : ExecutionUnit) → HasLetter u → reads (codes "break" ++ letter u) [] ≡ Some (op.Break u 0)
   pub nop : (u : ExecutionUnit) → HasLetter u → reads (codes "nop" ++ letter u) [] ≡ Some (op.Nop u 0)
   pub hint : (u : ExecutionUnit) → IsHintOf u 0 → reads (codes "hint" ++ letter u) [] ≡ Some (op.Hint u 0)
-  -- `break`, `nop`, `hint` and `chk.s` without a letter: until the slot is known their unit is X, or I of `hint` and `chk.s`
+  -- and without a letter, whose unit is that of an X slot, or of an I slot, until the slot is known
   pub bare_break : reads (codes "break") [] ≡ Some (op.Break unit.X 0)
   pub bare_nop : reads (codes "nop") [] ≡ Some (op.Nop unit.X 0)
   pub bare_hint : reads (codes "hint") [] ≡ Some (op.Hint unit.I 0)

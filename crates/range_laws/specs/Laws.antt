@@ -7,7 +7,7 @@ use Rattle.insn_rows.specs.declared.value.Value.TheVariants as v
 use Rattle.insn_rows.specs.Arms.{values_of}
 use Rattle.ia_program.specs.Listed.{IsListed}
 
--- The registers that the values name are registers that there are.
+-- the registers that the values name are registers that there are
 abbrev pub AreRegisters : List Value → Type 0
 AreRegisters [] = Unit {0}
 AreRegisters (v.Gr n ∷ xs) = (n < 128) × AreRegisters xs

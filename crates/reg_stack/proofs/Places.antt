@@ -125,7 +125,7 @@ put_in_run region c cell old new h put =
     ∙ set-set values (nat_word c) old new in
     subst (λ x. IsPut seen x c cell) same (put_is seen c cell new (rw length-set h) (rw (get_or-set_same region (nat_word c) old 0 h) put))
 
--- The word and the bit of cell c, where c is in the same run of 63 cells as `first`.
+-- The same with the places of the run, whose first or last cell is `first`: the word and the bit of the cell c there.
 pub record IsInRun (first c word bit : ℕ) : Type 0 where
   pub row : c / 63 ≡ first / 63
   pub word_is : value_word c ≡ word

@@ -9,7 +9,7 @@ use Rattle.frame_shapes.specs.declared.fault.StackFault.{StackFault}
 use Rattle.frame_shapes.specs.Faults.{alloc_fault_within, return_fault_within}
 use Rattle.reg_stack.specs.Stacks.{StackState, IsStack, with_cell, entered}
 
--- The calls that change a register stack, with what they are given.
+-- the calls that change a register stack, with what they are given
 pub data StackCall : Type 0 where
   Set : ℕ → Cell → StackCall
   Alloc : ℕ → ℕ → ℕ → StackCall
@@ -18,12 +18,12 @@ pub data StackCall : Type 0 where
   Rotate : StackCall
   Clear : Bool → StackCall
 
--- The new stack, or the old one where the call is refused.
+-- the new stack, or the old one where the call is refused
 abbrev pub unless_refused : Option StackFault → StackState → StackState → StackState
 unless_refused (Some fault) old new = old
 unless_refused None old new = new
 
--- What a call leaves.
+-- what a call leaves
 abbrev pub after_call : StackState → StackCall → StackState
 after_call s (Set r cell) = record s { cells = with_cell s.cells (spot s.frame r) cell }
 after_call s (Alloc sof sol sor) =
@@ -36,12 +36,12 @@ after_call s (Return pfm) =
 after_call s Rotate = record s { frame = rotated s.frame }
 after_call s (Clear pred_only) = record s { frame = cleared pred_only s.frame }
 
--- What calls leave, in order.
+-- what calls leave, in order
 abbrev pub after_calls : StackState → List StackCall → StackState
 after_calls s [] = s
 after_calls s (next ∷ rest) = after_calls (after_call s next) rest
 
--- No frame, from that of s to that after the last call, begins below cell n.
+-- no frame, from that of s to that after the last call, begins below cell n
 abbrev pub StaysFrom : ℕ → StackState → List StackCall → Type 0
 StaysFrom n s [] = n ≤ s.frame.base
 StaysFrom n s (next ∷ rest) = (n ≤ s.frame.base) × StaysFrom n (after_call s next) rest

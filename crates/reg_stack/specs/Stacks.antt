@@ -24,7 +24,7 @@ pub record StackState : Type 0 where
 abbrev pub empty_stack : ℕ → StackState
 empty_stack limit = record { cells = []; frame = zero_frame; range = zero_range; limit = limit }
 
--- A register stack.
+-- a register stack
 pub record IsStack (s : StackState) : Type 0 where
   pub frame : IsFrame s.frame
   pub count : length s.cells ≡ s.frame.base + s.frame.sof
@@ -33,7 +33,7 @@ pub record IsStack (s : StackState) : Type 0 where
   pub most : s.limit ≤ STACK_LIMIT
   pub cells : AreCells s.cells
 
--- What a ring, a region and the rest hold.
+-- what a ring, a region and the rest hold
 abbrev pub held_stack : List Cell → List ℕ → FrameShape → Rse → ℕ → StackState
 held_stack ring region shape rse limit = record { cells = cells_of ring region rse.low rse.high; frame = shape; range = rse; limit = limit }
 
@@ -47,19 +47,19 @@ pub record IsHeld (ring : List Cell) (region : List ℕ) (shape : FrameShape) (r
   pub words : length region ≡ region_words limit
   pub free : IsFreeFrom region rse.low
 
--- The cell at the place of a stacked register, which never is that of a static one.
+-- the cell at the place of a stacked register, which never is that of a static one
 abbrev pub cell_or_fault : List Cell → Option Spot → Result Cell StackFault
 cell_or_fault cells None = Err OutOfFrame
 cell_or_fault cells (Some (Static n)) = Err OutOfFrame
 cell_or_fault cells (Some (Stacked n)) = Ok (get_or cells n zero_cell)
 
--- Why there is none.
+-- why there is none
 abbrev pub place_fault : Option Spot → Option StackFault
 place_fault None = Some OutOfFrame
 place_fault (Some (Static n)) = Some OutOfFrame
 place_fault (Some (Stacked n)) = None
 
--- The cells after a write at a place.
+-- the cells after a write at a place
 abbrev pub with_cell : List Cell → Option Spot → Cell → List Cell
 with_cell cells None cell = cells
 with_cell cells (Some (Static n)) cell = cells

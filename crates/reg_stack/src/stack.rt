@@ -169,7 +169,7 @@ impl Stack {
         Ok(())
     }
 
-    /// What `alloc_frame` would return. Nothing changes.
+    /// What `alloc_frame` would answer.
     ///
     /// # Errors
     ///
@@ -223,7 +223,7 @@ impl Stack {
         Ok(())
     }
 
-    /// What `ret` would return. Nothing changes.
+    /// What `ret` would answer.
     ///
     /// # Errors
     ///

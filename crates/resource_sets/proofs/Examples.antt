@@ -31,7 +31,7 @@ of qp o = accesses (record { qp = qp; op = o })
 abbrev by : ℕ → Resource → Kind → Access
 by guard resource kind = record { resource = resource; kind = kind; guard = guard }
 
--- The accesses to `left` predicates from the n-th on.
+-- so many predicates from the n-th on
 abbrev predicates : (left n guard : ℕ) → Kind → List Access
 predicates zero n guard kind = []
 predicates (suc left) n guard kind = by guard (Pr n) kind ∷ predicates left (suc n) guard kind

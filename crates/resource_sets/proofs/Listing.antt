@@ -52,7 +52,7 @@ by_name qp f =
     ∙ ap (λ x. listed qp (frame_row qp f ∷ []) ++ x) (listed_append qp (qp_rows qp f) (own_rows f))
     ∙ sym (append_assoc (listed qp (frame_row qp f ∷ [])) (listed qp (qp_rows qp f)) (listed qp (own_rows f)))
 
--- The accesses of an action are those by name, and after them those of predicates by place.
+-- those by name, and after them those of predicates by place
 pub in_two : (qp : ℕ) (f : Action) → accesses_of qp f ≡ listed qp (rows_by_name qp f) ++ listed qp (placed_rows f)
 unfolding rows
 in_two qp f = listed_append qp (rows_by_name qp f) (placed_rows f)

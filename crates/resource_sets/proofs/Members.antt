@@ -17,7 +17,7 @@ cases_in x y xs (suc k, l, e) = inr (k, omega arith, e)
 pub in_head : {A : Type 0} (x y : A) (xs : List A) → x ≡ y → Contains (x ∷ xs) y
 in_head x y xs e = (0, omega arith, e)
 
--- An element of the rest is an element of the list.
+-- and so are the others
 pub in_tail : {A : Type 0} (x y : A) (xs : List A) → Contains xs y → Contains (x ∷ xs) y
 in_tail x y xs (k, l, e) = (suc k, omega arith, e)
 

@@ -18,7 +18,7 @@ pub within_append : (front back : List AccessRow) → AreNumbersInRange front �
 within_append [] back f b = b
 within_append (row ∷ front) back f b = (f.0, within_append front back f.1 b)
 
--- The accesses of rows with numbers of their sort have numbers of their sort.
+-- so the accesses of rows are
 pub within_listed : (qp : ℕ) (rows : List AccessRow) → AreNumbersInRange rows → (a : Access) → Contains (listed qp rows) a → IsNumberInRange a.resource
 within_listed qp [] w a c = absurd (not_in_none a c)
 within_listed qp (row ∷ rows) w a c = of row.there c (within_listed qp rows w.1 a)

@@ -110,7 +110,7 @@ none_met s t r p b u f l e c q = sym (has_both s t q) ∙ of q
 pub none_added : (x y : Bool) → x ≡ (x || (false && y))
 none_added x y = sym (or_false x)
 
--- With one number more below the limit, the list goes on by the resource with this number.
+-- one more resource of a sort
 pub number_more : (h : Resource → Bool) (sort : ℕ → Resource) (old : List Resource) (limit n : ℕ) → n < limit
     → old ++ filter h (numbered sort (limit - n) n) ≡ (old ++ filter h (sort n ∷ [])) ++ filter h (numbered sort (limit - (n + 1)) (n + 1))
 unfolding numbered
@@ -122,7 +122,7 @@ number_more h sort old limit n l =
     of true rest = sym (append_assoc old (sort n ∷ []) rest)
     of false rest = sym (append_assoc old [] rest)
 
--- At the limit no resource more is added.
+-- and none
 pub number_none : (h : Resource → Bool) (sort : ℕ → Resource) (old : List Resource) (limit n : ℕ) → n ≡ limit
     → old ++ filter h (numbered sort (limit - n) n) ≡ old
 unfolding numbered

@@ -45,7 +45,7 @@ clash_first Read second h = absurd (true≢false (sym h))
 clash_first Fill second h = absurd (true≢false (sym h))
 clash_first first second h = refl
 
--- An access with which an earlier one clashes isn't one that a branch makes.
+-- and the later one isn't one that a branch makes
 clash_second : (first second : Kind) → is_some (clash_of first second) ≡ true → is_second second ≡ true
 unfolding clash_of
 clash_second Spill BranchRead h = absurd (true≢false (sym h))
@@ -82,7 +82,7 @@ apart firsts seconds s t f g none = elim (cases_Bool (may_clash firsts seconds))
       )
 ]
 
--- An access that is a read, or of no resource that is made, clashes with none.
+-- nor does an access that is a read or of no resource that is made
 pub one_apart : (a : Access) (seconds : List Access) (t : Summary) → IsSummary seconds t → (is_first a.kind && has_resource t.made a.resource) ≡ false → may_clash (a ∷ []) seconds ≡ false
 one_apart a seconds t g none = or_false _ ∙ (elim (cases_Bool (list_any (λ b. is_some (clash a b)) seconds)) [
   | inr e ↦ e

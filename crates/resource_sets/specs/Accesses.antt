@@ -61,7 +61,7 @@ application ar.Pfs = Pfs
 application ar.Lc = Lc
 application ar.Ec = Ec
 
--- The accesses to `left` predicates from the n-th on, each there where a mask has it.
+-- so many predicates from the n-th on, where a mask has them
 abbrev pub place_rows : (left n mask : ℕ) → Kind → List AccessRow
 place_rows zero n mask kind = []
 place_rows (suc left) n mask kind =

@@ -25,7 +25,7 @@ abbrev pub is_write : Kind → Bool
 is_write AllocWrite = true
 is_write kind = is_written kind
 
--- The kind reads what earlier slots of the group might have written.
+-- it reads what earlier slots of the group might have written
 abbrev pub is_read : Kind → Bool
 is_read Read = true
 is_read Fill = true
@@ -36,7 +36,7 @@ abbrev pub is_raw : Kind → Kind → Bool
 is_raw Spill Fill = false
 is_raw first second = is_written first && is_read second
 
--- Both kinds write. Excepted are two or-writes, two and-writes and two spills, which may share a group.
+-- Both write. Or-writes may come in both orders, and so may and-writes and spills.
 abbrev pub is_waw : Kind → Kind → Bool
 is_waw OrWrite OrWrite = false
 is_waw AndWrite AndWrite = false

@@ -16,12 +16,12 @@ has_resource s Lc = s.lc
 has_resource s Ec = s.ec
 has_resource s Cfm = s.cfm
 
--- The resources of a sort from the n-th on, `left` of them.
+-- so many resources of a sort, from the n-th on
 unfoldable pub numbered : (ℕ → Resource) → (left n : ℕ) → List Resource
 numbered sort zero n = []
 numbered sort (suc left) n = sort n ∷ numbered sort left (suc n)
 
--- The resources that have no number.
+-- those that have no number
 abbrev pub others : List Resource
 others = Unat ∷ Pfs ∷ Lc ∷ Ec ∷ Cfm ∷ []
 

@@ -41,11 +41,11 @@ impl Default for Resource {
 /// How a resource is accessed.
 #[derive(Clone, Copy, Debug, PartialEq, Eq)]
 pub enum Kind {
-    /// The resource is read.
+    /// It is read.
     Read,
-    /// The resource is read by an instruction of a B slot: a branch sees what earlier slots of its group wrote.
+    /// It is read by an instruction of a B slot: a branch sees what earlier slots of its group wrote.
     BranchRead,
-    /// The resource is written.
+    /// It is written.
     Write,
     /// The frame is written by `alloc`, which is first in its group.
     AllocWrite,

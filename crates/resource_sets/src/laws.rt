@@ -7,16 +7,16 @@
 ghost use Rattle.resource_sets.specs.AccessLaws.{DependsOnAccesses, WritesAreAccesses, CellsAreInside, WritesAreApart, SpillsAreAccesses, AllocWritesItsFrameFirst, AllocatedFramesAreFrames};
 ghost use Rattle.resource_sets.specs.Regularity.{AccessesAreRegular, GuardsAreRead, NamedAccessesAreAccesses, AccessesAreNamedOrPlaced, AccessesAreGuarded, AllocWritesAreOfAlloc, PredicatesAreRead, StaticsAreRead, ListedAreRows, AccessesAreListed, AccessesAreInRange, GuardsAreInRange, LocationIsOneResource, IndexesAreOfPredicates, NamedAsFound, AgreeByAccesses, GuardsAreWritten, AccessesClash, ChangesClash};
 
-/// An instruction does the same from registers that agree on its accesses: on what those whose guard is 1 read, and on the frame
-/// where one of these accesses the frame.
+/// What an instruction does is the same from registers that agree on its accesses: on what those whose
+/// guard is 1 read, and on the frame where one of these accesses the frame.
 pub fn law_reads()
     ensures { DependsOnAccesses }
 {}
 
-/// An instruction writes no more than its accesses name. Each write lies on a resource that an access of a kind that writes
-/// names, under a guard that is 1. A cell that is written lies inside the frame. No two writes of a listed instruction go to one
-/// location, and no two resources stand at one. A bit of UNAT is written by an executed spill alone. An `alloc` that writes at
-/// all writes its frame first, in the sizes and bases of a frame.
+/// What an instruction writes it accesses so: each write lies on a resource that an access of a kind that
+/// writes names, whose guard is 1, and a cell inside the frame; no two writes of a listed instruction go to one
+/// location, and no two resources stand at one; a bit of UNAT is written by an executed spill alone; and an
+/// `alloc` that writes at all writes its frame first, in the sizes and bases of a frame.
 pub fn law_writes()
     ensures covered { WritesAreAccesses }
     ensures inside { CellsAreInside }
@@ -47,9 +47,9 @@ pub fn accesses_are_regular()
     ensures agree { AgreeByAccesses }
 {}
 
-/// Which accesses clash, and by which rules. Each access clashes with an earlier write of its resource, but for a branch's read,
-/// for writes that may come in either order, and for a fill after a spill. What writes a guard, or the frame of its name, is
-/// found by the definition `may_write_guard`.
+/// Which accesses clash: each with an earlier write of its resource, but for a branch's read, for writes that
+/// may come in both orders, and for a fill after a spill; and by which rules. And what writes a guard, or the
+/// frame of its name, is found by the definition `may_write_guard`.
 pub fn accesses_clash()
     ensures clash { AccessesClash }
     ensures rule { ChangesClash }

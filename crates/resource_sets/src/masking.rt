@@ -118,7 +118,7 @@ impl Summary {
     }
 }
 
-/// Takes in the accesses of predicates by place, and returns the set of them.
+/// Takes in the accesses of predicates by place, and answers the set of them.
 fn add_placed(summary: &mut Summary, qp: Pr, action: &Action) -> AccessSet
     ensures sums { (earlier : List Access) → IsSummary earlier summary.old → IsSummary (earlier ++ listed qp (placed_rows action.now)) summary.new }
     ensures set { IsSetOf (listed qp (placed_rows action.now)) result }

@@ -8,7 +8,7 @@ use Rattle.ia_meaning.specs.Names.{frame_index, predicate_index}
 abbrev pub DifferentIndexes : Type 0
 DifferentIndexes = (f : FrameShape) → IsFrame f → (k j : ℕ) → k < 96 → j < 96 → k ≢ j → frame_index f k ≢ frame_index f j
 
--- Different registers of a frame's rotating part have different numbers.
+-- So have those of its rotating part.
 abbrev pub DifferentRotatingIndexes : Type 0
 DifferentRotatingIndexes = (f : FrameShape) → IsFrame f → (k j : ℕ) → k < 8 * f.sor → j < 8 * f.sor → k ≢ j → frame_index f k ≢ frame_index f j
 

@@ -29,10 +29,10 @@ fn is_semaphore(op: &Op) -> bool
 /// The exchange or fetch-and-add whose word this is, and None exactly where it is that of none (volume 3,
 /// chapter 4, instruction formats, M16 and M17). Where in its bundle the word stands is not looked at.
 pub fn decode_sem(word: u64) -> Option<Insn>
-    // What is returned has this word.
+    // What is answered has this word.
     ensures found { IfSome result (λ i. CodeOfSemaphore i word) }
 
-    // An instruction that has this word is returned, so None comes only where none has it.
+    // An instruction that has this word is answered, so None comes only where none has it.
     ensures only { (i : Insn) → CodeOfSemaphore i word → result ≡ Some i }
 {
     match decode_m(word) {
@@ -50,10 +50,10 @@ pub fn decode_sem(word: u64) -> Option<Insn>
 /// The word of an exchange or a fetch-and-add, and None exactly where the instruction is another or an operand is
 /// not in its range (volume 3, chapter 4, instruction formats, M16 and M17).
 pub fn encode_sem(insn: &Insn) -> Option<u64>
-    // What is returned is its word.
+    // What is answered is its word.
     ensures found { IfSome result (λ w. CodeOfSemaphore insn.now w) }
 
-    // A word that it has is returned, so None comes only where it has none.
+    // A word that it has is answered, so None comes only where it has none.
     ensures only { (w : ℕ) → CodeOfSemaphore insn.now w → result ≡ Some w }
 
     // It has the 41 bits of a slot.

@@ -20,17 +20,17 @@ use Rattle.sequence_laws.proofs.Rows.{IsNumbered, sequence_numbered}
 use Rattle.sequence_laws.proofs.Fillers.{filler_accesses, filler_no_alloc, filler_no_clear}
 use Rattle.sequence_laws.proofs.Between.{IsThere}
 
--- An instruction of the sequence and its place in the program access the same.
+-- Both access the same,
 pub accesses_same : (sequence : InsnSequence) (p : Program) (at : ℕ → Place) (n : ℕ) → IsThere sequence p at n → accesses_at (over_sequence sequence) (first_of n) ≡ accesses_at (over_program p) (at n)
 unfolding accesses_at
 accesses_same sequence p at n t = ap accesses_in t.in_sequence ∙ t.like.accesses ∙ sym (ap accesses_in t.in_program)
 
--- An instruction of the sequence and its place in the program both hold an `alloc`, or none does.
+-- both are an `alloc` or none,
 pub allocates_same : (sequence : InsnSequence) (p : Program) (at : ℕ → Place) (n : ℕ) → IsThere sequence p at n → allocates_at (over_sequence sequence) (first_of n) ≡ allocates_at (over_program p) (at n)
 unfolding allocates_at
 allocates_same sequence p at n t = ap allocates t.in_sequence ∙ t.like.allocates ∙ sym (ap allocates t.in_program)
 
--- An instruction of the sequence and its place in the program both hold a `clrrrb`, or none does.
+-- and both are a `clrrrb` or none.
 pub clears_same : (sequence : InsnSequence) (p : Program) (at : ℕ → Place) (n : ℕ) → IsThere sequence p at n → clears_at (over_sequence sequence) (first_of n) ≡ clears_at (over_program p) (at n)
 unfolding clears_at
 clears_same sequence p at n t = ap clears_in t.in_sequence ∙ t.like.clears ∙ sym (ap clears_in t.in_program)
@@ -62,7 +62,7 @@ own_or_idle sequence p at place spread = of (insn_at p.bundles place) refl
       })
     ]
 
--- A place of the program with an access is that of an instruction of the sequence.
+-- so a place with an access is an instruction's
 pub accessing_own : (sequence : InsnSequence) (p : Program) (at : ℕ → Place) (place : Place) (a : Access) → IsSpread sequence p at → Contains (accesses_at (over_program p) place) a → IsOwn sequence at place
 accessing_own sequence p at place a spread c = elim (own_or_idle sequence p at place spread) [
   | inl is ↦ is
@@ -96,7 +96,7 @@ clashes_along g h i j k l rule q first second c = record {
   clash = c.clash;
 }
 
--- Accesses that clash unexcused do so at two other places, where what excuses them there excuses them here.
+-- and unexcused, where what excuses them there excused them here
 pub unexcused_along : (g h : Graph) (stop other : Place → Bool) (w u : Walk) (i k : Place) (rule : Rule) (q : Resource) → accesses_at g i ≡ accesses_at h k → accesses_at g (end_of w) ≡ accesses_at h (end_of u)
     → ((first second : ℕ) → IsExcused h other u k first second → IsExcused g stop w i first second) → ClashesUnexcused g stop w i rule q → ClashesUnexcused h other u k rule q
 unfolding clashes_along

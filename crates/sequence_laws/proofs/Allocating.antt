@@ -65,7 +65,7 @@ module _ (sequence : InsnSequence) (p : Program) (at : ℕ → Place) (has_stop 
         none_lands m to.bundle (sequence_inside sequence.insns m sequence_edge.lands) is head (subst (IsBefore (at n)) lands behind) (subst (λ (q : Place). IsBefore q (at (n + 1))) lands before)
     none_taken w to edge (filler i here nop none) behind before = filler_untaken p (end_of w) to i here nop edge
 
-    -- A walk to a place between the two has the first one in its group, where no stop follows a place between them.
+    -- So a walk to a place between them has the first in its group, where no stop follows a place between them.
     pub in_group : (w : Walk) → IsWalkIn (over_program p) w → IsClear p at has_stop (at n) (n + 1) → IsBefore (at n) (end_of w) → IsBefore (end_of w) (at (n + 1)) → Contains (group_since has_stop w) (at n)
     in_group (begins bundle) is clear behind before =
         let (m, entry, same, head) = spread.entries bundle is in

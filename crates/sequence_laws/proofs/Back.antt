@@ -25,11 +25,11 @@ use Rattle.sequence_laws.proofs.Groups.{joined, joins}
 pub record IsClear (p : Program) (at : ℕ → Place) (has_stop : Place → Bool) (from : Place) (n : ℕ) : Type 0 where
   pub unstopped : (place : Place) → IsPlaceOf p.bundles place → ¬ IsBefore place from → IsBefore place (at n) → has_stop place ≡ false
 
--- No stop stands between the place of the n-th instruction and that instruction.
+-- There is none from that instruction on,
 pub clear_at : (p : Program) (at : ℕ → Place) (has_stop : Place → Bool) (from : Place) (n : ℕ) → from ≡ at n → IsClear p at has_stop from n
 clear_at p at has_stop from n same = record { unstopped = λ place is up below. absurd (up (subst (IsBefore place) (sym same) below)) }
 
--- No stop stands from a place up to the n-th instruction where none follows the place, and none stands from the next one on.
+-- and none from the place before on, where none follows that.
 pub clear_before : (p : Program) (at : ℕ → Place) (has_stop : Place → Bool) (from next : Place) (n : ℕ) → IsNext p.bundles from next → has_stop from ≡ false → IsClear p at has_stop next n → IsClear p at has_stop from n
 clear_before p at has_stop from next n is unstopped clear = record { unstopped = λ place there up below. of place there up below (place_cases place from) }
   where

@@ -50,7 +50,7 @@ own_or_none at place (suc bound) = of (own_or_none at place bound) (cases_place 
     of (inr none) (inr apart) = inr (above none apart)
 
 module _ (sequence : InsnSequence) (p : Program) (at : ℕ → Place) (spread : IsSpread sequence p at) where
-  -- Each instruction of the sequence has a place in the program.
+  -- each instruction of the sequence has a place in the program,
   pub there : (n : ℕ) → n < length sequence.insns → IsThere sequence p at n
   there n inside = of (slice_get_cases sequence.insns n).1
     where
@@ -60,7 +60,7 @@ module _ (sequence : InsnSequence) (p : Program) (at : ℕ → Place) (spread : 
           record { insn = i; other = j; in_sequence = sequence_insn_is sequence.insns n ∙ is; in_program = here; like = like }
       of (inr (past, none)) = absurd (omega arith)
 
-  -- The place of an instruction of the sequence is one of the program's places.
+  -- which is one of the program's places
   pub at_place : (n : ℕ) → n < length sequence.insns → IsPlaceOf p.bundles (at n)
   at_place n inside = let t = there n inside in rw t.in_program refl
 
@@ -107,7 +107,7 @@ module _ (sequence : InsnSequence) (p : Program) (at : ℕ → Place) (spread : 
       from (inl less) = omega (arith, is)
       from (inr (same, less)) = omega arith
 
-  -- The next instruction of the sequence, where there is one, is the first at or after the next place of the program.
+  -- the next instruction of the sequence, where there is one, is the first at or after the next place of the program,
   pub first_next : (n : ℕ) (next : Place) → n + 1 < length sequence.insns → IsNext p.bundles (at n) next → IsFirstFrom sequence at (n + 1) next
   first_next n next inside is = record {
     inside = inside;
@@ -119,7 +119,7 @@ module _ (sequence : InsnSequence) (p : Program) (at : ℕ → Place) (spread : 
       below k (inl same) less = subst (λ (m : ℕ). IsBefore (at m) next) (sym same) is.after
       below k (inr apart) less = before_trans (at k) (at n) next (spread.rises k n (omega arith) (omega arith)) is.after
 
-  -- No instruction but the next one is the first at or after the next place of the program.
+  -- and no other is
   pub first_behind_own : (m n : ℕ) (next : Place) → m < length sequence.insns → IsNext p.bundles (at m) next → IsFirstFrom sequence at n next → n ≡ m + 1
   first_behind_own m n next inside is f = of (cases_lt m n) (cases_eq n (m + 1))
     where
@@ -144,7 +144,7 @@ module _ (sequence : InsnSequence) (p : Program) (at : ℕ → Place) (spread : 
       of (inr (inl same)) = absurd (none n f.inside same)
       of (inr (inr after)) = absurd (f.from after)
 
-  -- What is first at or after the place behind a `nop` is first at or after the `nop`.
+  -- and so the other way
   pub first_before_filler : (n : ℕ) (place next : Place) → ((k : ℕ) → k < length sequence.insns → place ≡ at k → ⊥) → IsNext p.bundles place next → IsFirstFrom sequence at n next → IsFirstFrom sequence at n place
   first_before_filler n place next none is f = record {
     inside = f.inside;

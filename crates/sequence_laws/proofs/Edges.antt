@@ -29,7 +29,7 @@ same_past sequence p at n e f t =
     ∙ t.like.pairs f e
     ∙ sym (ap (λ (o : Option Insn). pairs_past_insn o e f) t.in_program)
 
--- What is known past an instruction is the same on two walks that come to it with the same facts.
+-- and so on two walks that come to it with the same facts
 pub same_facts : (sequence : InsnSequence) (p : Program) (at : ℕ → Place) (n : ℕ) (u w : Walk) (e : Edge) (to_sequence to : Place) → IsThere sequence p at n → end_of u ≡ first_of n → end_of w ≡ at n → facts_in (over_sequence sequence) u ≡ facts_in (over_program p) w
     → facts_in (over_sequence sequence) (goes_on u e to_sequence) ≡ facts_in (over_program p) (goes_on w e to)
 same_facts sequence p at n u w e to_sequence to t ends_sequence ends same =
@@ -66,7 +66,7 @@ taken_to_first p from to edge = of (insn_at p.bundles from) edge.leads
     of None h = absurd cc
     of (Some i) h = target (displacement_of (insn_action i)) h
 
--- No taken edge leads from a `nop`.
+-- and none from a `nop`
 pub filler_untaken : (p : Program) (from to : Place) (i : Insn) → insn_at p.bundles from ≡ Some i → IsFiller i → HasEdge p from Taken to → ⊥
 unfolding edge_end
 filler_untaken p from to i here filler edge =

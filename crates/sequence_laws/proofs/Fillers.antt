@@ -22,24 +22,24 @@ use Rattle.flow_facts.specs.Walks.{Walk, begins, goes_on, end_of, IsWalkIn, fact
 use Rattle.order_laws.specs.Violations.{clears}
 use Rattle.sequence_laws.specs.Spreads.{IsFiller}
 
--- A `nop` accesses nothing.
+-- It accesses nothing.
 pub filler_accesses : (i : Insn) → IsFiller i → accesses i ≡ []
 unfolding rows
 filler_accesses i (unit, is) = rw is refl
 
--- Control falls through a `nop`.
+-- Control falls through,
 pub filler_falls : (i : Insn) → IsFiller i → may_fall i ≡ true
 filler_falls i (unit, is) = rw is refl
 
--- Control goes nowhere else from a `nop`.
+-- and goes nowhere else.
 pub filler_stays : (i : Insn) → IsFiller i → displacement_of (insn_action i) ≡ None
 filler_stays i (unit, is) = rw is refl
 
--- A `nop` is no `alloc`.
+-- It is no `alloc`,
 pub filler_no_alloc : (i : Insn) → IsFiller i → is_alloc (insn_action i) ≡ false
 filler_no_alloc i (unit, is) = rw is refl
 
--- A `nop` is no `clrrrb`.
+-- and no `clrrrb`.
 pub filler_no_clear : (i : Insn) → IsFiller i → clears (insn_action i) ≡ false
 filler_no_clear i (unit, is) = rw is refl
 
@@ -47,7 +47,7 @@ filler_no_clear i (unit, is) = rw is refl
 pub record IsBounded (f : Pairs) : Type 0 where
   pub each : (x y : ℕ) → f x y ≡ true → in_range x y ≡ true
 
--- A `nop` keeps all pairs of predicates.
+-- It keeps all pairs of predicates.
 pub filler_keeps : (i : Insn) (f : Pairs) (e : Edge) → IsFiller i → IsBounded f → pairs_after f i e ≡ f
 unfolding pairs_after rule_of
 filler_keeps i f e (unit, is) bounded = rw is (fun_ext (λ x. fun_ext (λ y. both x y (in_range x y) (f x y) (bounded.each x y))))
@@ -66,7 +66,7 @@ none_bounded : IsBounded no_pairs
 unfolding no_pairs
 none_bounded = record { each = λ x y h. absurd cc }
 
--- One pair more of two predicates keeps what is known within the predicates.
+-- and so is one pair more of two predicates
 pair_bounded : (f : Pairs) (a b : ℕ) → a < b → b < 64 → IsBounded f → IsBounded (with_pair f a b)
 unfolding with_pair in_range
 pair_bounded f a b apart below bounded = record { each = λ x y h. of x y (f x y) refl h }

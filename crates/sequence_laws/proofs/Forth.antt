@@ -145,7 +145,7 @@ module _ (sequence : InsnSequence) (p : Program) (at : ℕ → Place) (sequence_
         edge = subst (λ (q : Place). HasEdge p q Falls next) (sym same) (fall_edge (over_program p) (at m) next here.other here.in_program falls leads);
       }
 
-  -- Where no stop of the sequence follows an instruction, none of the program does.
+  -- Where no stop of the sequence follows an instruction none of the program does,
   pub unstopped_at : (m : ℕ) → m + 1 < length sequence.insns → sequence_stop (first_of m) ≡ false → has_stop (at m) ≡ false
   unstopped_at m inside unstopped = stops.unstopped m inside unstopped (at m) record {
     is = at_place sequence p at spread m (omega arith);
@@ -153,7 +153,7 @@ module _ (sequence : InsnSequence) (p : Program) (at : ℕ → Place) (sequence_
     below = spread.rises m (m + 1) (omega arith) inside;
   }
 
-  -- Where no stop of the sequence follows an instruction, none of the program comes between it and the next one.
+  -- and none comes between it and the next instruction.
   clear_behind : (m : ℕ) (next : Place) → m + 1 < length sequence.insns → IsNext p.bundles (at m) next → sequence_stop (first_of m) ≡ false → IsClear p at has_stop next (m + 1)
   clear_behind m next inside is unstopped = record {
     unstopped = λ place there up below. stops.unstopped m inside unstopped place record {

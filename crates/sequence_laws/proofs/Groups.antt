@@ -13,7 +13,7 @@ pub record IsJoined (has_stop : Place → Bool) (w : Walk) (i : Place) : Type 0 
   pub unstopped : has_stop (end_of w) ≡ false
   pub is : (end_of w ≡ i) ⊎ Contains (group_since has_stop w) i
 
--- A place of the group behind a fall is a joined one.
+-- The group behind a fall has such places,
 pub joined : (has_stop : Place → Bool) (w : Walk) (to i : Place) → Contains (group_since has_stop (goes_on w Falls to)) i → IsJoined has_stop w i
 joined has_stop w to i inside = of (has_stop (end_of w)) refl inside
   where
@@ -21,7 +21,7 @@ joined has_stop w to i inside = of (has_stop (end_of w)) refl inside
     of true e c = absurd (not_in_none i c)
     of false e c = record { unstopped = e; is = cases_in (end_of w) i (group_since has_stop w) c }
 
--- Each joined place is of the group behind a fall.
+-- and all of them.
 pub joins : (has_stop : Place → Bool) (w : Walk) (to i : Place) → IsJoined has_stop w i → Contains (group_since has_stop (goes_on w Falls to)) i
 joins has_stop w to i joined =
     rw (falls_group has_stop w to joined.unstopped) (elim joined.is [ inl same ↦ in_head (end_of w) i (group_since has_stop w) same | inr c ↦ in_tail (end_of w) i (group_since has_stop w) c ])

@@ -43,7 +43,7 @@ pub record IsOfOwn (sequence : InsnSequence) (p : Program) (at : ℕ → Place) 
   pub counterpart : HasCounterpart sequence p at sequence_stop has_stop w second.number
 
 module _ (sequence : InsnSequence) (p : Program) (at : ℕ → Place) (sequence_stop has_stop : Place → Bool) (program : IsProgram p) (spread : IsSpread sequence p at) (stops : AreStops sequence p at sequence_stop has_stop) where
-  -- Two slots that both access something are instructions of the sequence.
+  -- so it is where both access something
   both_own : (w : Walk) (i : Place) (a b : Access) → IsWalkIn (over_program p) w → Contains (accesses_at (over_program p) i) a → Contains (accesses_at (over_program p) (end_of w)) b → IsOfOwn sequence p at sequence_stop has_stop w i
   both_own w i a b is of_first of_second = record {
     first = accessing_own sequence p at i a spread of_first;
@@ -59,11 +59,11 @@ module _ (sequence : InsnSequence) (p : Program) (at : ℕ → Place) (sequence_
   group_kept w i both k own inside =
       both.counterpart.group (clear_at p at has_stop (end_of w) both.second.number both.second.is) own.number own.inside (subst (Contains (group_since has_stop w)) own.is inside)
 
-  -- The first slot accesses the same in the sequence.
+  -- the first accesses the same in the sequence,
   first_same : (w : Walk) (i : Place) (both : IsOfOwn sequence p at sequence_stop has_stop w i) → accesses_at (over_program p) i ≡ accesses_at (over_sequence sequence) (first_of both.first.number)
   first_same w i both = ap (accesses_at (over_program p)) both.first.is ∙ sym (accesses_same sequence p at both.first.number (there sequence p at spread both.first.number both.first.inside))
 
-  -- The last slot accesses the same in the sequence.
+  -- and so does the last
   second_same : (w : Walk) (i : Place) (both : IsOfOwn sequence p at sequence_stop has_stop w i) → accesses_at (over_program p) (end_of w) ≡ accesses_at (over_sequence sequence) (end_of both.counterpart.walk)
   second_same w i both =
       ap (accesses_at (over_program p)) both.second.is
@@ -105,7 +105,7 @@ module _ (sequence : InsnSequence) (p : Program) (at : ℕ → Place) (sequence_
   clashed_in_sequence w i rule q both c =
       clashes_along (over_program p) (over_sequence sequence) i (end_of w) (first_of both.first.number) (end_of both.counterpart.walk) rule q (first_same w i both) (second_same w i both) c
 
-  -- Accesses that clash unexcused in the program clash unexcused in the sequence.
+  -- and those that are not excused there are not here
   unexcused_in_sequence : (w : Walk) (i : Place) (rule : Rule) (q : Resource) (both : IsOfOwn sequence p at sequence_stop has_stop w i) → ClashesUnexcused (over_program p) has_stop w i rule q → ClashesUnexcused (over_sequence sequence) sequence_stop both.counterpart.walk (first_of both.first.number) rule q
   unexcused_in_sequence w i rule q both c =
       unexcused_along (over_program p) (over_sequence sequence) has_stop sequence_stop w both.counterpart.walk i (first_of both.first.number) rule q
@@ -139,7 +139,7 @@ module _ (sequence : InsnSequence) (p : Program) (at : ℕ → Place) (sequence_
             ap has_stop (same_before (over_program p) place (end_of from.before) (at (n + 1)) is (edge_inside (over_program p) (end_of from.before) Falls (end_of w) from.edge) leads last)
             ∙ from.unstopped
 
-    -- The instruction before it is in its group.
+    -- so that is in its group
     alloc_group : Contains (group_since has_stop w) (at n)
     alloc_group = subst (λ (l : List Place). Contains l (at n)) (sym from.group) (of (place_cases (at n) (end_of from.before)))
       where

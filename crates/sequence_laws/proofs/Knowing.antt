@@ -31,7 +31,7 @@ module _ (sequence : InsnSequence) (p : Program) (at : ℕ → Place) (n : ℕ) 
       back sequence p at unstopped unstopped program spread (none_stops sequence p at) w there.walks n
       (subst (IsFirstFrom sequence at n) (sym there.ends) (first_at sequence p at spread n inside))
 
-  -- The walk of the program for one of the sequence to the instruction.
+  -- and the other way
   forth_at : (u : Walk) → EndsIn (over_sequence sequence) (first_of n) u → IsFollowed sequence p at unstopped unstopped u n
   forth_at u there = forth sequence p at unstopped unstopped program spread (none_stops sequence p at) u there.walks n there.ends
 

@@ -38,7 +38,7 @@ sequence_numbered insns place h = of (place.slot == 0) refl (slice_get insns pla
     of true e None there h = absurd cc
     of false e o there h = absurd cc
 
--- Where the n-th place is one, there is an n-th instruction.
+-- so the n-th place is one where there is an n-th instruction
 pub sequence_inside : (insns : List Insn) (n : ℕ) → IsSome (sequence_insn insns (first_of n)) → n < length insns
 sequence_inside insns n is =
     let numbered = sequence_numbered insns (first_of n) is in

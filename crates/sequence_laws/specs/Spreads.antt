@@ -26,7 +26,7 @@ pub record DoesLike (i j : Insn) : Type 0 where
   pub allocates : is_alloc (insn_action i) ≡ is_alloc (insn_action j)
   pub clears : clears (insn_action i) ≡ clears (insn_action j)
 
--- A `nop` with immediate 0 under p0.
+-- a `nop` with immediate 0 under p0
 abbrev pub IsFiller : Insn → Type 0
 IsFiller i = (unit : ExecutionUnit) × (i ≡ record { qp = 0; op = Nop unit 0 })
 
@@ -36,16 +36,16 @@ IsHead at n = (k : ℕ) → k < n → (at k).bundle < (at n).bundle
 
 -- The program has the instructions of the sequence at these places.
 pub record IsSpread (sequence : InsnSequence) (p : Program) (at : ℕ → Place) : Type 0 where
-  -- each instruction does the same at its place, and the places are in order
+  -- each does the same there, and they are in order
   pub there : (n : ℕ) (i : Insn) → slice_get sequence.insns n ≡ Some i → (j : Insn) × (insn_at p.bundles (at n) ≡ Some j) × DoesLike i j
   pub rises : (n m : ℕ) → n < m → m < length sequence.insns → IsBefore (at n) (at m)
-  -- Every other place has a nop.
+  -- every other place has a nop
   pub fillers : (place : Place) (j : Insn) → insn_at p.bundles place ≡ Some j → ((n : ℕ) × (n < length sequence.insns) × (place ≡ at n)) ⊎ IsFiller j
-  -- The entries are the bundles of the sequence's entries, which are first there and declare the same.
+  -- the entries are the bundles of the sequence's entries, which are first there, and declare the same
   pub entries : (bundle : ℕ) → IsEntry p bundle → (n : ℕ) × IsSequenceEntry sequence n × ((at n).bundle ≡ bundle) × IsHead at n
   pub sequence_entries : (n : ℕ) → IsSequenceEntry sequence n → IsEntry p (at n).bundle × IsHead at n
   pub known : (n : ℕ) → IsSequenceEntry sequence n → known_at_entry sequence.relations n ≡ known_at_entry p.relations (at n).bundle
-  -- The targets of branches are the bundles of the sequence's targets, which are first there.
+  -- and so with targets
   pub targets : (bundle : ℕ) (n : ℕ) → n < length sequence.insns → HasEdge p (at n) Taken (first_of bundle)
       → (m : ℕ) × HasSequenceEdge sequence (first_of n) Taken (first_of m) × ((at m).bundle ≡ bundle) × IsHead at m
   pub sequence_targets : (n m : ℕ) → HasSequenceEdge sequence (first_of n) Taken (first_of m) → HasEdge p (at n) Taken (first_of (at m).bundle) × IsHead at m
@@ -56,15 +56,15 @@ pub record IsBetween (p : Program) (at : ℕ → Place) (n : ℕ) (place : Place
   pub from : ¬ IsBefore place (at n)
   pub below : IsBefore place (at (n + 1))
 
--- The stops of the program are those of the sequence: one follows a place between two neighbours exactly where the sequence has
--- one behind the first of them.
+-- The stops of the program are those of the sequence: one follows a place between two neighbours exactly where the sequence has one
+-- behind the first of them.
 pub record AreStops (sequence : InsnSequence) (p : Program) (at : ℕ → Place) (sequence_stop has_stop : Place → Bool) : Type 0 where
   pub stopped : (n : ℕ) → n + 1 < length sequence.insns → sequence_stop (first_of n) ≡ true → (place : Place) × IsBetween p at n place × (has_stop place ≡ true)
   pub unstopped : (n : ℕ) → n + 1 < length sequence.insns → sequence_stop (first_of n) ≡ false → (place : Place) → IsBetween p at n place → has_stop place ≡ false
 
--- Where `alloc` and `clrrrb` stand, for the rules on slots. An `alloc` that is first in its bundle stands in slot 0. A stop
--- between it and the instruction before it follows the place right before it. A stop behind a `clrrrb` follows it right away.
--- After the last instruction of the sequence a `clrrrb` has no place behind it.
+-- An `alloc` that is first in its bundle stands in slot 0, and a stop between it and the instruction before it follows the
+-- place right before it. A stop behind a `clrrrb` follows it right away, and after the last instruction of the sequence it has
+-- no place behind it.
 pub record KeepsSlotRules (sequence : InsnSequence) (p : Program) (at : ℕ → Place) (has_stop : Place → Bool) : Type 0 where
   pub alloc_head : (n : ℕ) → allocates_at (over_sequence sequence) (first_of n) ≡ true → IsHead at n → (at n).slot ≡ 0
   pub alloc_stop : (n : ℕ) → n + 1 < length sequence.insns → allocates_at (over_sequence sequence) (first_of (n + 1)) ≡ true

@@ -23,37 +23,37 @@ use Rattle.frame_shapes.specs.Faults.{alloc_fault}
 use Rattle.slot_effects.specs.declared.change.Change.{Change}
 use Rattle.slot_effects.specs.declared.change.Change.TheVariants.{Nothing, General, Predicates, PredicateWord, Branch, Application, Loaded, Entered, Hit, Stored, Exchanged, Invalidated, AllInvalidated, Allocated, Turned, Called, Returned, Cleared}
 
--- The write of an application register.
+-- the write of an application register
 abbrev pub application_write : Ar → ℕ → Write
 application_write Unat v = SetUnat v
 application_write Pfs v = SetPfs v
 application_write Lc v = SetLc v
 application_write Ec v = SetEc v
 
--- A write of the register that stands at a place, where there is one, before other writes.
+-- a write of the register that stands at a place, where there is one, before other writes
 abbrev pub set_at : Option Spot → Cell → List Write → List Write
 set_at None cell ws = ws
 set_at (Some d) cell ws = set_spot d cell ws
 
--- What a register's cell holds, 0 where it has none.
+-- what a register's cell holds, 0 where it has none
 abbrev pub held_or_zero : Option Cell → Cell
 held_or_zero None = zero_cell
 held_or_zero (Some cell) = cell
 
--- What a register holds, 0 outside the frame.
+-- what a register holds, 0 outside the frame
 abbrev pub held : Registers → ℕ → Cell
 held r n = held_or_zero (look r n)
 
--- The write of a base at its place, where there is one.
+-- the write of a base at its place, where there is one
 abbrev pub update_at : Option Spot → Update → Cell → Cell → List Write
 update_at None u base more = []
 update_at (Some d) u base more = base_writes u d base more
 
--- The write of a base, where it is updated: by a number, or by a register that holds this cell.
+-- the write of a base, where it is updated: by a number, or by a register that holds this cell
 abbrev pub base_update : Registers → ℕ → Update → Cell → List Write
 base_update r r3 u more = update_at (spot r.frame r3) u (held r r3) more
 
--- The write of the base of a load, where it is updated: by a number, or by the register that the update names.
+-- the write of the base of a load, where it is updated: by a number, or by the register that the update names
 abbrev pub load_update : Registers → ℕ → Update → List Write
 load_update r r3 u = base_update r r3 u (held r (update_register u))
 
@@ -84,21 +84,21 @@ writes_of r Returned =
     ∷ SetEc (epilog_of r.pfs) ∷ []
 writes_of r (Cleared pred_only) = SetFrame Renamed (cleared pred_only r.frame) ∷ []
 
--- The entries without that of the register at a place, where there is one.
+-- the entries without that of the register at a place, where there is one
 abbrev pub invalidated_at : Option Spot → List AlatEntry → List AlatEntry
 invalidated_at None es = es
 invalidated_at (Some d) es = invalidated es d
 
--- The entries without that of the register at a place, where a load invalidates it.
+-- the entries without that of the register at a place, where a load invalidates it
 abbrev pub invalidated_where : Bool → Option Spot → List AlatEntry → List AlatEntry
 invalidated_where invalidates d es = if invalidates then invalidated_at d es else es
 
--- The entries with a new one of the register at a place, where there is one.
+-- the entries with a new one of the register at a place, where there is one
 abbrev pub entered_at : Option Spot → ℕ → ℕ → List AlatEntry → List AlatEntry
 entered_at None address size es = es
 entered_at (Some d) address size es = entered es (record { key = d; address = address; size = size })
 
--- The memory after a change of these registers.
+-- the memory after a change of these registers
 abbrev pub memory_after : Registers → Change → Memory → Memory
 memory_after r (Loaded r1 r3 invalidates update cell) m = record m { alat = invalidated_where invalidates (spot r.frame r1) m.alat }
 memory_after r (Entered r1 r3 size update cell) m =
@@ -116,12 +116,12 @@ memory_after r (Invalidated r1) m = record m { alat = invalidated_at (spot r.fra
 memory_after r AllInvalidated m = record m { alat = [] }
 memory_after r change m = m
 
--- The bit of UNAT that a change of these registers spills, and its value.
+-- the bit of UNAT that a change of these registers spills, and its value
 abbrev pub spills_of : Registers → Change → Option (ℕ × Bool)
 spills_of r (Stored r3 size spills update cell) = if spills then Some (unat_bit (held r r3).value, cell.nat) else None
 spills_of r change = None
 
--- The outcome of a slot that makes a change of these registers and this memory, and goes on so.
+-- the outcome of a slot that makes a change of these registers and this memory, and goes on so
 abbrev pub outcome_making : Registers → Memory → Change → Next → Outcome
 outcome_making r m change next = record {
   writes = writes_of r change;
@@ -130,19 +130,19 @@ outcome_making r m change next = record {
   next = next;
 }
 
--- A value fits an application register.
+-- a value fits an application register
 abbrev pub FitsApplication : Ar → ℕ → Type 0
 FitsApplication Pfs value = HasReservedZeros value
 FitsApplication Ec value = value < 64
 FitsApplication ar value = Unit {0}
 
--- A store has no fault, and a spill is of 8 bytes.
+-- a store has no fault, and a spill is of 8 bytes
 pub record MayStore (m : Memory) (address width : ℕ) (spills : Bool) : Type 0 where
   pub size : IsAccessSize width
   pub fault : access_fault m.bytes address width ≡ None
   pub whole : IsTrue spills → width ≡ 8
 
--- An `alloc` has no fault.
+-- an `alloc` has no fault
 pub record MayAllocate (f : FrameShape) (sof sol sor : ℕ) : Type 0 where
   pub size : sof ≤ 96
   pub locals : sol ≤ sof

@@ -10,7 +10,7 @@ use Rattle.slot_effects.specs.declared.slot_effect.SlotEffect.{SlotEffect}
 use Rattle.slot_effects.specs.declared.loads.FoundLoad.{FoundLoad}
 use Rattle.slot_effects.specs.Changes.{held, memory_after, spills_of, outcome_making}
 
--- The outcome of a slot of this effect from these registers and this memory.
+-- the outcome of a slot of this effect from these registers and this memory
 abbrev pub outcome_of_effect : Registers → Memory → SlotEffect → Outcome
 outcome_of_effect r m e = outcome_making r m e.change e.next
 
@@ -24,6 +24,6 @@ pub record IsLoadOf (r : Registers) (load : FoundLoad) : Type 0 where
   pub place : spot r.frame load.r1 ≡ Some load.entry.key
   pub address : (held r load.r3).value ≡ load.entry.address
 
--- A target is outside the frame, or a source is.
+-- a target is outside the frame, or a source is
 abbrev pub IsMissing : Option Spot → Option Cell → Option Cell → Type 0
 IsMissing d a b = (d ≡ None) ⊎ ((a ≡ None) ⊎ (b ≡ None))

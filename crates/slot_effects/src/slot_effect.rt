@@ -18,7 +18,7 @@ pub struct SlotEffect {
 }
 
 impl SlotEffect {
-    /// The slot falls through.
+    /// It falls through.
     pub fn falls(change: Change) -> SlotEffect
         ensures { result ≡ record { change = change; next = Falls } }
     {
@@ -28,7 +28,7 @@ impl SlotEffect {
         }
     }
 
-    /// The slot takes a branch to a bundle.
+    /// It takes a branch to a bundle.
     pub fn goes(change: Change, bundle: u32) -> SlotEffect
         ensures { result ≡ record { change = change; next = Goes bundle } }
     {
@@ -38,7 +38,7 @@ impl SlotEffect {
         }
     }
 
-    /// The slot ends the run with a number.
+    /// It ends the run with a number.
     pub fn breaks(imm: u64) -> SlotEffect
         ensures { result ≡ record { change = Nothing; next = Breaks imm } }
     {
@@ -48,7 +48,7 @@ impl SlotEffect {
         }
     }
 
-    /// The slot ends the run with a fault.
+    /// It ends the run with a fault.
     pub fn faults(kind: FaultKind) -> SlotEffect
         ensures { result ≡ record { change = Nothing; next = Faults kind } }
     {

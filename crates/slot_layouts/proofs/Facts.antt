@@ -177,7 +177,7 @@ with_next_code o = option_map (λ layout. (layout.0 + 1, layout.1)) o
 abbrev end_takes_next : List Wanted → Bool
 end_takes_next ws = same_layout (laid_out ws true) (with_next_code (laid_out ws false))
 
--- The facts hold of each list of up to three instructions: a computation.
+-- all of it holds of each list of up to three: a computation
 abbrev holds_all : List Wanted → Bool
 holds_all ws = facts_hold ws && (front_holds ws && end_takes_next ws)
 
@@ -185,7 +185,7 @@ all_up_to_three : HoldsUpToThree holds_all
 unfolding laid_out first_below
 all_up_to_three = record { none = refl; one = λ g. refl; two = λ g. refl; three = λ g. refl }
 
--- The facts hold of each list, as a longer one has no layout.
+-- and of each list, as a longer one has no layout
 all_hold : (ws : List Wanted) → (facts_hold ws ≡ true) × ((front_holds ws ≡ true) × (end_takes_next ws ≡ true))
 all_hold ws =
     let all = for_every holds_all all_up_to_three (λ w x y z ws. rw (too_long w x y z ws true, too_long w x y z ws false) refl) ws in

@@ -49,7 +49,7 @@ is_f qp x h = grind arith
 is_x : (qp : ℕ) (x : Op) → AsRow rows_x (place_x (opcode_of (slot_op x))) (record { qp = qp; op = slot_op x }) → class_of x ≡ X
 is_x qp x h = grind arith
 
--- The instructions of the B family stand in the slots of their class.
+-- those of the B family stand in the slots of theirs
 branch_place : (qp : ℕ) (x : Op) (u : ExecutionUnit) (slot : ℕ) → AsRow rows_b (place_b (opcode_of x)) (record { qp = qp; op = x }) → IsTrue (has_place (class_of x) u slot) ↔ ((u ≡ units.B) × IsBranchSlot x slot)
 branch_place qp x u slot h = grind (arith, nat_tests)
 

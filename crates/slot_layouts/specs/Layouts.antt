@@ -42,9 +42,9 @@ abbrev pub has_none_before : List ℕ → List ℕ → Bool
 has_none_before stops [] = false
 has_none_before stops (k ∷ ks) = has_stop_where stops 0 k false
 
--- The template has the stops that are wanted, from the first of the slots on. From the slot of an instruction on and before that
--- of the next one it has exactly one where a stop is wanted between them, and else none. From the slot of the last one on it has
--- a stop after slot 2 exactly where one is wanted at the end, and no other.
+-- From the first of the slots on: from the slot of an instruction on and before that of the next there is one stop
+-- where one is wanted between them, and else none; from that of the last one on there is none but after slot 2, and that
+-- one exactly where a stop is wanted at the end.
 abbrev pub stops_are_wanted : List ℕ → List Wanted → List ℕ → Bool → Bool
 stops_are_wanted stops (w ∷ []) (k ∷ ks) end = has_stop_where stops k 2 false && has_stop_where stops 2 3 end
 stops_are_wanted stops (w ∷ x ∷ ws) (k ∷ l ∷ ks) end = has_stop_where stops k l x.gap && stops_are_wanted stops (x ∷ ws) (l ∷ ks) end

@@ -30,7 +30,7 @@ pub record IsSlotOf (bundles : List Bundle) (place : Place) (slot : Slot) : Type
   pub here : insn_at bundles place ≡ Some insn
   pub is : slot_of bundles place insn ≡ slot
 
--- The numbers of an instruction at a place are in their ranges.
+-- Its numbers are in their ranges.
 pub record IsInRange (place : Place) (insn : Insn) : Type 0 where
   pub bundle : place.bundle < 2 ^ 31
   pub ranges : HasActionRanges (insn_action insn)
@@ -59,7 +59,7 @@ not_place bundles place none is = of (insn_at bundles place) refl none
     of None here n = let there = rw here at is in cc
     of (Some insn) here n = cc
 
--- Where there is no place there is no slot.
+-- and where there is no place there is no slot
 pub no_slot : (bundles : List Bundle) (place : Place) → (IsPlaceOf bundles place → ⊥) → slot_at bundles place ≡ None
 unfolding slot_at
 no_slot bundles place none = of (insn_at bundles place) refl

@@ -12,7 +12,7 @@ use Rattle.predicate_rel.specs.declared.edge.Edge.TheVariants.{Falls, Taken}
 use Rattle.predicate_rel.specs.Edges.{may_fall, displacement_of, target_at}
 use Rattle.slot_table.specs.declared.slot.Slot.{Slot}
 
--- The slot of an instruction at a place.
+-- the slot of an instruction at a place
 abbrev pub slot_of : List Bundle → Place → Insn → Slot
 slot_of bundles place insn = record {
   action = insn_action insn;
@@ -23,11 +23,11 @@ slot_of bundles place insn = record {
   target = target_at place.bundle (displacement_of (insn_action insn));
 }
 
--- The slot of the instruction at a place, and None where there is none.
+-- the slot of the instruction at a place, and None where there is none
 unfoldable pub slot_at : List Bundle → Place → Option Slot
 slot_at bundles place = option_map (slot_of bundles place) (insn_at bundles place)
 
--- Where the edge of this sort leads from a slot.
+-- where the edge of this sort leads from a slot
 abbrev pub edge_from : Slot → Edge → Option Place
 edge_from slot Falls = if slot.falls then slot.next else None
 edge_from slot Taken = slot.target

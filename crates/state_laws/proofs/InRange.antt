@@ -66,7 +66,7 @@ pub apply_keeps : (ws : List Write) (r : Registers) → Each IsInRange ws → Ar
 apply_keeps [] r fits h = h
 apply_keeps (w ∷ ws) r fits h = apply_keeps ws (put w r) fits.1 (put_keeps w r fits.0 h)
 
--- A spill keeps the registers in their ranges.
+-- so does a spill
 pub spilled_keeps : (o : Option (ℕ × Bool)) (r : Registers) → IfSome o (λ b. b.0 < 64) → AreRegisters r → AreRegisters (spilled o r)
 spilled_keeps None r small h = h
 spilled_keeps (Some b) r small h = put_keeps (SetUnat (with_bit r.unat b.0 b.1)) r (with_bit_word r.unat b.0 b.1 small h.unat) h

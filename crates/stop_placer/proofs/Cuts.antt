@@ -22,7 +22,7 @@ use Rattle.stop_placer.specs.Placing.{without_stop}
 use Rattle.stop_placer.specs.Caused.{unstopped, IsCut}
 use Rattle.stop_placer.proofs.PackFree.{violated_behind, without_elsewhere}
 
--- Where a place's own stop is left out, none follows the place.
+-- at the place itself there is no stop then
 without_here : (p : Program) (out : Place) → without_stop p out out ≡ false
 without_here p out = of (is_stopped p.bundles out) (out.bundle == out.bundle) (out.slot == out.slot) (eq-eqb out.bundle out.bundle refl) (eq-eqb out.slot out.slot refl)
   where
@@ -35,7 +35,7 @@ without_here p out = of (is_stopped p.bundles out) (out.bundle == out.bundle) (o
 with_stop : (g : Graph) (has_stop other : Place → Bool) (j : Place) (s : Slot) → other j ≡ has_stop j → Describes g has_stop j s → Describes g other j s
 with_stop g has_stop other j s e d = record { insn = d.insn; here = d.here; action = d.action; qp = d.qp; falls = d.falls; stop = d.stop ∙ sym e }
 
--- The slot of a place describes it with its stop left out there.
+-- so the slot of a place describes it, with its stop left out there
 pub describes_here : (p : Program) (j out : Place) (s : Slot) → j ≡ out → slot_at p.bundles j ≡ Some s → Describes (over_program p) (without_stop p out) j (unstopped s)
 describes_here p j out s e at =
     let d = slot_describes p j s at in

@@ -160,14 +160,14 @@ due_at p places causes n behind place gap caused last is from at = record {
   };
 }
 
--- The first instruction of all counts as the last one before the first place of a program.
+-- at the first place
 pub last_first : (p : Program) (places : List Place) (causes : List (Option Cause)) → AreCaused p places causes → IsLastBefore places 0 (first_of 0)
 last_first p places causes caused = record { inside = caused.some; from = inl refl; below = λ inside h. none_before_first (place_in places 1) h }
 
 pub from_first : (p : Program) → IsPlaceOf p.bundles (first_of 0) → IsFrom p (first_of 0) (first_of 0)
 from_first p is = record { is = is; parted = inl refl; low = none_before_first (first_of 0) }
 
--- The last instruction at a place or before is the last one before the next place.
+-- and at the next place
 pub last_next : (p : Program) (places : List Place) (causes : List (Option Cause)) (n : ℕ) (place next : Place) → AreCaused p places causes → IsLastUpTo places n place → next_of p.bundles place ≡ Some next → IsLastBefore places n next
 last_next p places causes n place next caused last follows = record {
   inside = last.inside;

@@ -125,7 +125,7 @@ one_first_past s n m a b = of (cases_order n m)
     of (inr (inl h)) = absurd (none_later s n m a b h)
     of (inr (inr h)) = absurd (none_later s m n b a h)
 
--- No item begins a bundle past the limit where the whole packing is within it.
+-- and none does where the whole packing is within the limit
 pub none_past : (s : Loose) (k : Packing) (n : ℕ) → IsPack s k → length (all_chunks s k) ≤ BUNDLE_LIMIT → IsFirstPast s n → ⊥
 none_past s k n pack few past =
     let grown = front_grown s (up_to s n past) past.after past.packing k past.is (subst (λ (l : List Item). IsPackOf s l k) (whole s n past) pack) in

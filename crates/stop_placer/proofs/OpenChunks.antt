@@ -92,13 +92,13 @@ laid_with ws true laid = subst (IsSome {T = ℕ × List ℕ}) (sym (end_takes_ne
 pub open_closed : (ws : List Wanted) (items : List Item) (before : Item) (end : Bool) → IsOpen ws items before → IsChunk (chunk ws end) items
 open_closed ws items before end current = record { holds = current.holds; together = current.together; laid = laid_with ws end current.laid }
 
--- Chunks of further items behind one chunk.
+-- chunks that hold further items, behind one
 pub chunk_first : (c : Chunk) (cs : List Chunk) (items more : List Item) → IsChunk c items → AreChunks cs more → AreChunks (c ∷ cs) (items ++ more)
 chunk_first c cs items more is are =
     let count = sym (holds_length c.wanted items is.holds) in
     (subst (IsChunk c) (sym (take_at items more (length c.wanted) count)) is, subst (AreChunks cs) (sym (drop_at items more (length c.wanted) count)) are)
 
--- One chunk behind the chunks of the items before.
+-- and one behind chunks
 pub chunk_last : (cs : List Chunk) (c : Chunk) (items more : List Item) → AreChunks cs items → IsChunk c more → AreChunks (cs ++ c ∷ []) (items ++ more)
 chunk_last [] c [] more are is = subst (AreChunks (c ∷ [])) (append-nil more) (chunk_first c [] more [] is tt)
 chunk_last [] c (item ∷ items) more are is = absurd are

@@ -75,7 +75,7 @@ module _ (s : Loose) (k : Packing) (is : IsLoose s) (pack : IsPack s k) (few : l
     violated = violated;
   }
 
--- What is caused for a program, places and causes is so for those that equal them.
+-- so it is of what equals them
 pub caused_as : (p q : Program) (places others : List Place) (causes gaps : List (Option Cause)) → p ≡ q → places ≡ others → causes ≡ gaps → AreCaused q others gaps → AreCaused p places causes
 caused_as p q places others causes gaps e f g caused =
     subst (λ (a : Program). AreCaused a places causes) (sym e) (subst (λ (b : List Place). AreCaused q b causes) (sym f) (subst (λ (d : List (Option Cause)). AreCaused q others d) (sym g) caused))

@@ -64,7 +64,7 @@ pub record IsLastBefore (places : List Place) (n : ℕ) (place : Place) : Type 0
   pub from : (n ≡ 0) ⊎ IsBefore (place_in places n) place
   pub below : n + 1 < length places → ¬ IsBefore (place_in places (n + 1)) place
 
--- The n-th instruction is the last at the place or before, or the first of all.
+-- It is the last at the place or before, or the first of all.
 pub record IsLastUpTo (places : List Place) (n : ℕ) (place : Place) : Type 0 where
   pub inside : n < length places
   pub from : (n ≡ 0) ⊎ ¬ IsBefore place (place_in places n)

@@ -14,15 +14,15 @@ use Rattle.bundling.specs.Bundled.{targeted}
 use Rattle.stop_placer.specs.Packed.{Packed}
 use Rattle.stop_placer.specs.Placing.{IsPlaced, HasPlacingFault}
 
--- A text is packed into at most one program with one list of reasons.
+-- A text is packed into one program with one list of reasons at most,
 abbrev pub OnePlaced : Type 0
 OnePlaced = (text : List ℕ) (k m : Packed) → IsPlaced text k → IsPlaced text m → k ≡ m
 
--- A text has at most one first fault.
+-- has at most one first fault,
 abbrev pub OnePlacingFault : Type 0
 OnePlacingFault = (text : List ℕ) (e f : TextError) → HasPlacingFault text e → HasPlacingFault text f → e ≡ f
 
--- A text that is packed has no fault.
+-- and not both.
 abbrev pub NoFaultWherePlaced : Type 0
 NoFaultWherePlaced = (text : List ℕ) (k : Packed) (e : TextError) → IsPlaced text k → HasPlacingFault text e → ⊥
 

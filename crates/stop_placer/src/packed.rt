@@ -44,7 +44,7 @@ impl Model for Packed {
 }
 
 impl Packed {
-    /// The packed text of these parts.
+    /// That of these parts.
     pub(crate) fn of_parts(program: Program, places: Vec<Place>, stops: Vec<StopWhy>) -> Packed
         ensures { result ≡ record { program = program; places = places.items; stops = stops.items } }
     {

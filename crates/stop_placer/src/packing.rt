@@ -112,7 +112,7 @@ pub(crate) struct Whole {
 }
 
 impl Packing {
-    /// The packing of the first instruction.
+    /// That of the first instruction.
     pub fn begun_with(alloc: Global, item: &Item) -> Packing
         ensures { result ≡ begun_with item.now }
     {

@@ -46,7 +46,7 @@ pub(crate) struct SequenceFacts {
 }
 
 impl SequenceFacts {
-    /// What is known at each instruction of a text's sequence.
+    /// That of a text's sequence.
     ///
     /// # Errors
     ///

@@ -67,22 +67,22 @@ fn place(alloc: Global, text: &[u8]) -> Result<Packed, TextError>
 pub fn place_stops(alloc: Global, text: &[u8]) -> Result<Packed, TextError>
     requires { length text.now + 1 < 2 ^ 32 }
 
-    // What is returned is what the text is packed into.
+    // What is answered is what the text is packed into.
     ensures found { IfOk result (IsPlaced text.now) }
 
-    // What the text is packed into is returned, so a fault comes only where it is packed into nothing.
+    // What the text is packed into is answered, so a fault comes only where it is packed into nothing.
     ensures only { (k : PackedOf) → IsPlaced text.now k → (result ≡ Ok k) ⊎ (result ≡ Err error.Memory) }
 
     // The fault is the first one of the text.
     ensures fault { IfErr result (λ e. e ≢ error.Memory → HasPlacingFault text.now e) }
 
-    // A fault that the text has is returned, since it has no other.
+    // A fault that the text has is answered, since it has no other.
     ensures only_fault { (e : ErrorOf) → HasPlacingFault text.now e → (result ≡ Err e) ⊎ (result ≡ Err error.Memory) }
 
     // The program has no violation.
     ensures accepted { IfOk result (λ k. HasNoViolation k.program) }
 
-    // The program has the text's instructions, in order, with their targets put in, and nops beside them.
+    // It has the text's instructions, in order, with their targets put in, and nops beside them.
     ensures keeps { IfOk result (KeepsText text.now) }
 {
     one_placed();

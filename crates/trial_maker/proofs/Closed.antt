@@ -20,7 +20,7 @@ pub record IsClosed (b : Bundle) : Type 0 where
   pub stop : IsStopAfter b.template b.slots 2
   pub free : (slot : ℕ) → IfSome (slot_insn b.slots slot) (λ i. displacement i.op ≡ None)
 
--- Each of the bundles is closed.
+-- each of them is closed
 abbrev pub AreClosed : List Bundle → Type 0
 AreClosed bundles = (n : ℕ) → IfSome (slice_get bundles n) IsClosed
 
@@ -36,7 +36,7 @@ ends_at_2 bundles closed place is h =
     let stop = subst (IsStopAfter l.bundle.template l.bundle.slots) at (closed_at bundles closed place.bundle l.bundle l.is).stop in
     inl (subst (λ (o : Option Bundle). IsSomeAnd o (λ b. IsStopAfter b.template b.slots place.slot)) (sym l.is) stop)
 
--- The slot after one that doesn't end a run is of the same bundle.
+-- so the slot after one that doesn't end a run is of the same bundle
 same_bundle : (bundles : List Bundle) → AreClosed bundles → (place next : Place) → IsPlaceOf bundles place → ¬ EndsRun bundles place → IsNext bundles place next → place.slot < next.slot
 same_bundle bundles closed place next is on follows = of (cases_lt place.slot 2) follows.after
   where

@@ -17,22 +17,22 @@ use Rattle.ia_program.specs.Programs.{Program}
 use Rattle.trial_maker.specs.declared.draws.Trio.{Trio}
 use Rattle.trial_maker.specs.Draws.{draws_of}
 
--- One of r8 to r15, which operations change.
+-- one of r8 to r15, which operations change
 abbrev pub changed_register : ℕ → ℕ
 changed_register n = 8 + n % 8
 
--- One of r16 to r23, which additions of a constant fill.
+-- one of r16 to r23, which additions of a constant fill
 abbrev pub filled_register : ℕ → ℕ
 filled_register n = 16 + n % 8
 
 abbrev pub operations : List AluFn
 operations = Add ∷ Add1 ∷ Sub ∷ Sub1 ∷ Addp4 ∷ And ∷ Andcm ∷ Or ∷ Xor ∷ []
 
--- The operation that a draw names.
+-- the operation that a draw names
 abbrev pub operation_of : ℕ → AluFn
 operation_of draw = slice_index_or operations (draw / 64 % 9) Add
 
--- An instruction under p0.
+-- an instruction under p0
 abbrev pub always : Op → Insn
 always op = record { qp = 0; op = op }
 
@@ -48,14 +48,14 @@ abbrev pub addition : ℕ → ℕ → Insn
 addition number draw =
     always (AddImm14 false (filled_register (number / 4)) (pos (draw / 8 % 8192)) (changed_register draw))
 
--- An operation on two registers under the predicate `qp`: one draw names its target, another the rest.
+-- an operation on two registers under the predicate `qp`: one draw names its target, another the rest
 abbrev pub operation : ℕ → ℕ → ℕ → Insn
 operation qp target draw = record {
   qp = qp;
   op = Alu (operation_of draw) (changed_register target) (changed_register draw) (filled_register (draw / 8));
 }
 
--- A bundle of the units M, I and I with a stop at its end.
+-- a bundle of the units M, I and I with a stop at its end
 abbrev pub mii : Insn → Insn → Insn → Bundle
 mii a b c = record { template = 0x01; slots = Three a b c }
 
@@ -67,15 +67,15 @@ bundle_of number draws =
     then mii (compare draws.first) (addition number draws.second) (nop I)
     else mii (nop M) (operation 6 draws.first draws.second) (operation 7 draws.first draws.third)
 
--- The last bundle, which ends the run.
+-- the last bundle, which ends the run
 abbrev pub last_bundle : Bundle
 last_bundle = mii (nop M) (nop I) (always (Break I 0))
 
--- The first bundles of a seed's programs, without a last.
+-- the first bundles of a seed's programs, without a last
 unfoldable pub first_bundles : ℕ → ℕ → List Bundle
 first_bundles seed count = map (λ number. bundle_of number (draws_of seed number)) (range_with_len 0 count)
 
--- The program of a seed with this many bundles.
+-- the program of a seed with so many bundles
 abbrev pub trial_program : ℕ → ℕ → Program
 trial_program seed bundles = record {
   bundles = first_bundles seed (bundles - 1) ++ last_bundle ∷ [];

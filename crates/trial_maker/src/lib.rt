@@ -17,8 +17,8 @@ use crate::draws::Draws;
 use ia_program::{BundleOf, Program};
 use std::alloc::{AllocError, Global};
 
-/// The program of a seed, with a number of bundles from 1 to [`BUNDLE_LIMIT`](ia_program::limits::BUNDLE_LIMIT), the last
-/// included. It has no declared entries, no data and no declared relations.
+/// The program of a seed with so many bundles, 1 to [`BUNDLE_LIMIT`](ia_program::limits::BUNDLE_LIMIT),
+/// the last included. It has no declared entries, no data and no declared relations.
 ///
 /// # Errors
 ///

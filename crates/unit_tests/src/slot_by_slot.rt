@@ -47,7 +47,7 @@ word:
 data8 42
 ";
 
-/// Goes `count` steps, or fewer up to an end.
+/// So many steps, or up to an end.
 fn steps(rt: &impl Abort, machine: &mut Machine, count: u8) -> Option<End> {
     for _ in 0..count {
         assert!(rt; machine.groups() < 100);
@@ -86,7 +86,7 @@ const SEEN: [(u8, [u64; 11]); 3] = [
     (8, [4, 0, 4, 2, 3, 3, 0x41, 0x1_0030, 7, 6, 3 << 62 | 0x103]),
 ];
 
-/// After `count` steps without an end the ALAT has these entries, and the data begin with this byte, all others being 0.
+/// After so many steps without an end the ALAT has these entries, and the data begin with this byte, all others being 0.
 fn remembers(rt: &impl Abort, machine: &mut Machine, count: u8, entries: &[AlatEntry], byte: u8) {
     assert_eq!(rt; steps(rt, machine, count), None);
     assert_eq!(rt; machine.alat().entries(), entries);
@@ -96,7 +96,7 @@ fn remembers(rt: &impl Abort, machine: &mut Machine, count: u8, entries: &[AlatE
     );
 }
 
-/// The run comes to this end after `count` steps, in the sixth group.
+/// So many steps come to this end, in the sixth group.
 fn ends(rt: &impl Abort, machine: &mut Machine, count: u8, end: End) {
     assert_eq!(rt; steps(rt, machine, count), Some(end));
     assert_eq!(rt; machine.place(), Place { bundle: 5, slot: 2 });

@@ -30,7 +30,7 @@ fn watch(
     Ok((status, Vec::from_slice(alloc, sink.bytes())?))
 }
 
-/// There are `count` watchers left, and each reports the wanted text.
+/// So many watchers are left, and each reports this.
 fn report(
     rt: &impl Abort,
     alloc: Global,

@@ -9,8 +9,9 @@ use hex::FromHex;
 use insn_codec::{SlotFault, decode_bundle};
 use std::alloc::{AllocError, Global};
 
-/// Whether a row of a bundle is right: its 32 digits, and what [`decode_bundle`] gives for these sixteen bytes, the text of a
-/// bundle or the name of a fault. A bundle has to have the bytes again when it is encoded.
+/// Whether a row of a bundle is right: its 32 digits, and what [`decode_bundle`] answers for these
+/// sixteen bytes, the text of a bundle or the name of a fault. A bundle has to have the bytes again when
+/// it is encoded.
 pub fn is_bundle(alloc: Global, digits: &str, wanted: &str) -> Result<bool, AllocError>
     ensures { IfOk result (λ right. IsTrue right → IsOk (decode_sized digits.now 16)) }
 {

@@ -27,14 +27,14 @@ fn add_text(bytes: &mut Vec<u8>, text: &[u8]) -> Result<(), AllocError> {
     Ok(())
 }
 
-/// Adds what hexadecimal digits write, or that several times, as `4096*00ff`.
+/// Adds what hexadecimal digits write, or so many times that, as `4096*00ff`.
 fn add_digits(alloc: Global, bytes: &mut Vec<u8>, part: &str) -> Option<()> {
     let (count, digits) = part.split_once('*').unwrap_or(("1", part));
     let once = hex::decode(alloc, digits).ok()?;
     add_times(bytes, count.parse().ok()?, &once).ok()
 }
 
-/// Adds the same bytes `count` times.
+/// Adds so many times the same bytes.
 fn add_times(bytes: &mut Vec<u8>, count: u32, once: &[u8]) -> Result<(), AllocError> {
     for _ in 0..count {
         bytes.extend_from_slice(once)?;

@@ -39,7 +39,7 @@ fn answer(alloc: Global, row: &str) -> Option<bool> {
     follows(alloc, row, &input)
 }
 
-/// Whether the call of a row gives what the row wants on this input, or its second call does on what the first one gives.
+/// Whether the call of a row is answered as it wants on this input, or its second call on what the first one gives.
 fn follows(alloc: Global, row: Row<'_>, input: &[u8]) -> Option<bool> {
     match row.words.split_once(" | ") {
         Some((first, words)) => {
@@ -61,7 +61,7 @@ fn given(alloc: Global, command: &str, input: &[u8]) -> Option<Vec<u8>> {
     }
 }
 
-/// Whether one call gives what the row wants.
+/// Whether one call is answered as the row wants.
 fn is_called(alloc: Global, row: Row<'_>, input: &[u8]) -> Option<bool> {
     let (moves, left) = row.source.rsplit_once(' ')?;
     let mut source = source_of(alloc, moves, input)?;

@@ -21,9 +21,9 @@
 //! - `#`: a heading;
 //! - `not`: a row that is wrong on purpose, so that it shows that a difference is seen.
 //!
-//! The last row of all is wrong without that word. The scripts `generate/make_*_rows.py` write the file; the bytes of bundles,
-//! and of the images of most texts, are those of the GNU tools. The program names the first ten rows that differ, and then says
-//! how many were read and how many of them differ.
+//! The last row of all is wrong without that word. The scripts `generate/make_*_rows.py` write the file; the bytes of bundles, and
+//! of the images of most texts, are those of the GNU tools. The program names the first ten rows that differ, and then says how
+//! many were read and how many of them differ.
 #![tactic(auto)]
 
 mod bundle_texts;

@@ -24,7 +24,7 @@ pub fn sink_of(alloc: Global, written: &str) -> Option<MemSink> {
     sink_with(alloc, room, step_of(step)?, call)
 }
 
-/// A sink with room for `room` bytes, of which a call takes at most `step`, with the call that fails.
+/// A sink with so much room, of which a call takes at most so many bytes, with the call that fails.
 fn sink_with(alloc: Global, room: usize, step: usize, call: &str) -> Option<MemSink>
     requires { 1 ≤ step }
 {
@@ -49,7 +49,7 @@ fn failing(alloc: Global, written: &str) -> Option<Vec<u64>> {
     Some(calls)
 }
 
-/// Whether a source has as many bytes left as the row says, the last of this input, or fails at its next call, as `-` says.
+/// Whether a source has so many bytes left, the last of this input, or fails at its next call, as `-` says.
 pub fn has_left(alloc: Global, source: &mut MemSource, input: &[u8], left: &str) -> bool {
     match read_all(alloc, source, MOST) {
         Ok(rest) => left.parse() == Ok(rest.len()) && input.ends_with(&rest),

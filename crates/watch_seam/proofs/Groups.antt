@@ -120,7 +120,7 @@ left_are : {B : Type 0} (seen : B → WatchState) (e : GroupEvent) (ws : List Nu
     → map seen list ≡ states (left_after e ws)
 left_are seen e ws numbers list as_many left = sym (states_of_zip numbers (map seen list) (as_many ∙ sym (length-map list seen))) ∙ ap states left
 
--- The watchers that are left are still to see groups.
+-- They are still to see groups.
 pub still_room : {B : Type 0} (seen : B → WatchState) (e : GroupEvent) (ws : List Numbered) (numbers : List ℕ) (list : List B) → length numbers ≡ length list → zip numbers (map seen list) ≡ left_after e ws → All AwaitsGroups (map seen list)
 still_room seen e ws numbers list as_many left = subst (All AwaitsGroups) (sym (left_are seen e ws numbers list as_many left)) (left_has_room e ws)
 

@@ -101,7 +101,7 @@ leaves seen e text_0 numbers_0 list_0 text nb n nl before old left s full =
       amid = λ later a. s.amid later (inl (full, a));
     }
 
--- The watchers that are left are there as they were.
+-- Those that are left are there as they were.
 as_they_were : (e : GroupEvent) (ws : List WatchState) → IsAmidGroup (e ∷ []) 0 ws ws
 as_they_were e [] = refl
 as_they_were e (w ∷ ws) = inr (w, ws, refl, inl refl, as_they_were e ws)
@@ -162,7 +162,7 @@ remove_seam (y ∷ before) x left = ap (λ zs. y ∷ zs) (remove_seam before x l
 remove_at : {A : Type 0} (xs before : List A) (x : A) (left : List A) (at : ℕ) → xs ≡ before ++ x ∷ left → length before ≡ at → remove xs at ≡ before ++ left
 remove_at xs before x left at parts is = rw (parts, sym is) (remove_seam before x left)
 
--- The watcher at the place has room for the group.
+-- It has room for the group.
 pub has_room : {B : Type 0} (seen : B → WatchState) (e : GroupEvent) (text_0 numbers_0 : List ℕ) (list_0 : List B) (text numbers : List ℕ) (list : List B) (at : ℕ) (old : B)
     → IsShown seen e text_0 numbers_0 list_0 text numbers list at → at < length list → old ≡ get_or list at old → AwaitsGroups (seen old)
 has_room seen e text_0 numbers_0 list_0 text numbers list at old s below is =
@@ -170,7 +170,7 @@ has_room seen e text_0 numbers_0 list_0 text numbers list at old s below is =
     let its : old ≡ a.watcher = is ∙ get_at list a.before a.watcher old a.left at a.list_parts a.place in
     subst (λ b. AwaitsGroups (seen b)) (sym its) (a.shown.room 0 (seen a.watcher) (omega arith))
 
--- The watcher has seen the group, and stays.
+-- It has seen the group, and stays.
 pub after_stay : {B : Type 0} (seen : B → WatchState) (e : GroupEvent) (text_0 numbers_0 : List ℕ) (list_0 : List B) (text numbers : List ℕ) (list : List B) (at : ℕ) (old now : B)
     → IsShown seen e text_0 numbers_0 list_0 text numbers list at → at < length list → old ≡ get_or list at old → seen now ≡ after (seen old) e → keep_of (seen now) ≡ Stay
     → IsShown seen e text_0 numbers_0 list_0 text numbers (slice_set list at now) (at + 1)
@@ -189,7 +189,7 @@ after_stay seen e text_0 numbers_0 list_0 text numbers list at old now s below i
       shown = stays seen e text_0 numbers_0 list_0 text a.numbers_before a.number a.numbers_left a.before a.watcher now a.left a.shown sees (subst (λ w. is_full w ≡ false) sees (stays_is (seen now) keeps));
     }
 
--- The watcher is full with the group, has reported and is gone.
+-- It is full with the group, has reported and is gone.
 pub after_full : {B : Type 0} (seen : B → WatchState) (e : GroupEvent) (text_0 numbers_0 : List ℕ) (list_0 : List B) (text numbers : List ℕ) (list : List B) (at : ℕ) (old now : B) (text_1 numbers_1 : List ℕ) (list_1 : List B) (d : WatchState)
     → IsShown seen e text_0 numbers_0 list_0 text numbers list at → at < length list → old ≡ get_or list at old → seen now ≡ after (seen old) e → keep_of (seen now) ≡ Full
     → text_1 ≡ text ++ numbered_report (get_or numbers at 0, get_or (map seen (slice_set list at now)) at d) → numbers_1 ≡ remove numbers at → list_1 ≡ remove (slice_set list at now) at
@@ -310,7 +310,7 @@ reported_one seen all text numbers list at n w text_1 r below is_n is_w is =
 pub of_ok : {T E : Type 0} (r : Result T E) (v : T) (P : T → Type 0) → r ≡ Ok v → IfOk r P → P v
 of_ok r v P is o = subst (λ x. IfOk x P) is o
 
--- What holds in any case holds where the result is Ok.
+-- and where it went well
 pub if_ok_always : {X E : Type 0} {P : Type 0} (r : Result X E) → P → OnOk r P
 if_ok_always (Ok x) p = p
 if_ok_always (Err e) p = tt

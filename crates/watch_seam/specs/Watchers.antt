@@ -7,12 +7,12 @@ use Rattle.ia_program.specs.declared.ending.How.TheVariants as how
 use Rattle.watch_seam.specs.declared.watch.Keep.{Keep}
 use Rattle.watch_seam.specs.declared.watch.Keep.TheVariants.{Stay, Full}
 
--- What a watcher reports: its counts, or a line for each group.
+-- what a watcher reports: its counts, or a line for each group
 pub data Sort : Type 0 where
   counter : Sort
   tracer : Sort
 
--- What a watcher has seen.
+-- what a watcher has seen
 pub record WatchState : Type 0 where
   pub sort : Sort
   pub groups : ℕ  -- how many groups
@@ -21,7 +21,7 @@ pub record WatchState : Type 0 where
   pub lines : List ℕ  -- the lines of a tracer
   pub fill : ℕ  -- how many groups it is to see
 
--- Nothing so far.
+-- nothing so far
 abbrev pub fresh : Sort → ℕ → WatchState
 fresh sort fill = record { sort = sort; groups = 0; slots = 0; taken = 0; lines = []; fill = fill }
 
@@ -33,22 +33,22 @@ how_text how.Falls = codes "falls"
 how_text how.Taken = codes "taken"
 how_text how.Ends = codes "ends"
 
--- The number of a group, its first and its last place, and how it ended.
+-- the number of a group, its first and its last place, and how it ended
 abbrev pub event_text : GroupEvent → List ℕ
 event_text e = decimal e.number ++ codes " " ++ place_text e.first ++ codes " " ++ place_text e.last ++ codes " " ++ how_text e.how
 
--- The line that a watcher of this sort keeps of a group.
+-- the line that a watcher of this sort keeps of a group
 abbrev pub kept_line : Sort → GroupEvent → List ℕ
 kept_line counter e = []
 kept_line tracer e = line (event_text e)
 
--- One where the group took a branch.
+-- one where the group took a branch
 abbrev pub taken_count : How → ℕ
 taken_count how.Falls = 0
 taken_count how.Taken = 1
 taken_count how.Ends = 0
 
--- What has been seen after one more group.
+-- what has been seen after one more group
 abbrev pub after : WatchState → GroupEvent → WatchState
 after w e =
     record w {
@@ -58,7 +58,7 @@ after w e =
       lines = w.lines ++ kept_line w.sort e;
     }
 
--- As many groups have been seen as are to be.
+-- as many groups have been seen as are to be
 abbrev pub is_full : WatchState → Bool
 is_full w = nat_le w.fill w.groups
 
@@ -68,7 +68,7 @@ keep_of w = if is_full w then Full else Stay
 abbrev pub counts_text : WatchState → List ℕ
 counts_text w = codes "groups " ++ decimal w.groups ++ codes " slots " ++ decimal w.slots ++ codes " taken " ++ decimal w.taken
 
--- The report of a watcher of this sort.
+-- the report of a watcher of this sort
 abbrev pub sort_report : Sort → WatchState → List ℕ
 sort_report counter w = line (counts_text w)
 sort_report tracer w = w.lines
@@ -79,6 +79,6 @@ report_text w = sort_report w.sort w
 unfoldable pub line_count : List ℕ → ℕ
 line_count text = count_by (λ byte. byte == 10) text
 
--- A tracer's report has as many lines as there were groups.
+-- a tracer's report has as many lines as there were groups
 abbrev pub HasALineAGroup : WatchState → Type 0
 HasALineAGroup w = w.sort ≡ tracer → line_count (report_text w) ≡ w.groups

@@ -4,15 +4,15 @@ use Rattle.std.specs.List.{enumerate_from}
 use Rattle.ia_program.specs.declared.ending.GroupEvent.{GroupEvent}
 use Rattle.watch_seam.specs.Watchers.{WatchState, after, is_full, line, report_text}
 
--- There are groups that a watcher is still to see.
+-- there are groups that a watcher is still to see
 abbrev pub AwaitsGroups : WatchState → Type 0
 AwaitsGroups w = w.groups < w.fill
 
--- All of the watchers are still to see groups.
+-- all of them are still to see groups
 abbrev pub AwaitGroups : List WatchState → Type 0
 AwaitGroups ws = All AwaitsGroups ws
 
--- A watcher, and its number in the list that was handed in.
+-- a watcher, and its number in the list that was handed in
 abbrev pub Numbered : Type 0
 Numbered = ℕ × WatchState
 
@@ -28,12 +28,12 @@ has_seen_all w = is_full w.1
 abbrev pub sees_more : Numbered → Bool
 sees_more w = not (is_full w.1)
 
--- The numbers of the watchers that are left of a list, and what was reported so far.
+-- the numbers of the watchers that are left of a list, and what was reported so far
 pub record ReportsSoFar : Type 0 where
   pub numbers : List ℕ
   pub text : List ℕ
 
--- A line with the number of a watcher, and its report.
+-- a line with the number of a watcher, and its report
 abbrev pub numbered_report : Numbered → List ℕ
 numbered_report w = line (codes "watch " ++ decimal w.0) ++ report_text w.1
 
@@ -41,7 +41,7 @@ numbered_report w = line (codes "watch " ++ decimal w.0) ++ report_text w.1
 abbrev pub reports_after : GroupEvent → List Numbered → List ℕ
 reports_after e ws = flat_map numbered_report (filter has_seen_all (map (sees e) ws))
 
--- The watchers that see the next group too.
+-- Those that see the next group too.
 abbrev pub left_after : GroupEvent → List Numbered → List Numbered
 left_after e ws = filter sees_more (map (sees e) ws)
 
@@ -50,7 +50,7 @@ abbrev pub reports : List GroupEvent → List Numbered → List ℕ
 reports [] ws = flat_map numbered_report ws
 reports (e ∷ events) ws = reports_after e ws ++ reports events (left_after e ws)
 
--- What a watcher has seen after groups.
+-- what a watcher has seen after groups
 abbrev pub after_all : List GroupEvent → WatchState → WatchState
 after_all events w = fold after w events
 
@@ -61,8 +61,8 @@ is_full_after events w = is_full (after_all events w)
 abbrev pub staying : List GroupEvent → List WatchState → List WatchState
 staying events ws = filter (λ w. not (is_full w)) (map (after_all events) ws)
 
--- The watchers that are there in the course of a group, the one after the first `count`, in the order of the list. Each has seen
--- these groups, or that group too. Each that isn't there is full after that group.
+-- The watchers that are there in the course of the group after so many of a run, in the order of the list. Each has
+-- seen these groups, or that group too; each that isn't there is full after that group.
 abbrev pub IsAmidGroup : List GroupEvent → ℕ → List WatchState → List WatchState → Type 0
 IsAmidGroup events count [] now = now ≡ []
 IsAmidGroup events count (w ∷ ws) now =

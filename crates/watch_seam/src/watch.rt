@@ -10,19 +10,19 @@ use std::alloc::AllocError;
 /// Whether a watcher sees the next group too.
 #[derive(Clone, Copy, Debug, PartialEq, Eq)]
 pub enum Keep {
-    /// The watcher sees the next group too.
+    /// It does.
     Stay,
-    /// The watcher has seen as many groups as it is to see.
+    /// It has seen as many groups as it is to see.
     Full,
 }
 
-/// Sees the groups that a run executes, one after the other, and reports what it has seen.
+/// StateView the groups that a run executes, one after the other, and reports what it has seen.
 pub trait Watch: Drop {
     /// What the watcher has seen.
     ghost state: { Self → WatchState };
 
-    /// Sees a group. It returns `Full` exactly where the watcher has then seen as many groups as it is to see. It is for a
-    /// watcher that isn't full.
+    /// StateView a group. The answer is `Full` exactly where the watcher has then seen as many groups as
+    /// it is to see. It then sees no more: this is for a watcher that isn't full.
     ///
     /// # Errors
     ///
