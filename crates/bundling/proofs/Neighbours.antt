@@ -7,7 +7,7 @@ use Rattle.ia_insn.specs.declared.insn.Insn.{Insn}
 use Rattle.ia_program.specs.declared.place.Place.{Place}
 use Rattle.ia_program.specs.Bundles.{Bundle, last_slot}
 use Rattle.ia_program.specs.Places.{IsPlaceOf, IsBefore}
-use Rattle.ia_program.proofs.InOrder.{lies_in, slot_within}
+use Rattle.ia_program.proofs.InOrder.{lies_in, slot_within as within_last}
 use Rattle.ia_meaning.specs.Sequence.{stopped_in, is_stopped}
 use Rattle.slot_layouts.specs.declared.layout.Wanted.{Wanted}
 use Rattle.slot_layouts.specs.Filled.{filled}
@@ -43,7 +43,7 @@ pub slot_within : AreLayouts → (cs : List Chunk) (items : List Item) (insns : 
 slot_within laws cs items insns k j slot c are there at =
     let put = put_at laws cs items k c are there in
     let place = (laws.holds c.wanted c.end (layout_of c).0 (layout_of c).1 (part_of cs k c insns) put.laid).places j slot at in
-    slot_within (filled_at cs insns k c).slots slot place
+    within_last (filled_at cs insns k c).slots slot place
 
 -- The n-th instruction and the next stand in one bundle.
 pub record InOne (cs : List Chunk) (n : ℕ) : Type 0 where
