@@ -4,7 +4,7 @@ ghost use Rattle.std.specs.Prelude.{map};
 ghost use Rattle.watch_seam.specs.Watching.{AwaitGroups};
 
 use ia_program::GroupEvent;
-use ia64_top::{Status, Words, ia64};
+use ia64_top::{Arguments, Status, ia64};
 use io_seam::{MemSink, MemSource};
 use std::alloc::{AllocError, Global};
 use std::process::Abort;
