@@ -33,21 +33,28 @@ use Rattle.asm_build.proofs.UntargetedSlots.{fits_aimed}
 -- A distance between bundles fits the field of a displacement.
 near : (m n : ℕ) → m < reach → n < reach → FitsSigned 21 (pos m -ℤ pos n)
 near m zero a b = omega (arith, a)
-near m (suc n) a b = elim (ltb m (suc n)) as (λ less. FitsSigned 21 (cond less (negsuc (suc n - suc m)) (pos (m - suc n)))) [ true ↦ omega (arith, a, b) | false ↦ omega (arith, a, b) ]
+near m (suc n) a b =
+    elim (ltb m (suc n)) as (λ less. FitsSigned 21 (cond less (negsuc (suc n - suc m)) (pos (m - suc n))))
+    [ true ↦ omega (arith, a, b) | false ↦ omega (arith, a, b) ]
 
 back : (m n : ℕ) → pos n +ℤ (pos m -ℤ pos n) ≡ pos m
 back m n = +ℤ_comm (pos n) (pos m -ℤ pos n) ∙ -ℤ-+ℤ_cancel (pos m) (pos n)
 
 at_bundle : (count m n : ℕ) → m < count → IsBundleAt count n (pos m -ℤ pos n)
-at_bundle count m n h = (subst (λ z. pos 0 ≤ℤ z) (sym (back m n)) (record { le = le→leb 0 m (omega arith) }), subst (λ z. z <ℤ pos count) (sym (back m n)) (record { lt = lt→ltb m count h }))
+at_bundle count m n h = (
+  subst (λ z. pos 0 ≤ℤ z) (sym (back m n)) (record { le = le→leb 0 m (omega arith) }),
+  subst (λ z. z <ℤ pos count) (sym (back m n)) (record { lt = lt→ltb m count h }),
+)
 
 -- A long move of another number.
-row_moved : (qp r1 imm other : ℕ) → AsRow rows (row_index_of (opcode_of (slot_op (op.Movl r1 imm)))) (record { qp = qp; op = slot_op (op.Movl r1 imm) })
+row_moved : (qp r1 imm other : ℕ) → AsRow rows (row_index_of (opcode_of (slot_op (op.Movl r1 imm))))
+    (record { qp = qp; op = slot_op (op.Movl r1 imm) })
     → AsRow rows (row_index_of (opcode_of (slot_op (op.Movl r1 other)))) (record { qp = qp; op = slot_op (op.Movl r1 other) })
 unfolding rows listed
 row_moved qp r1 imm other h = grind arith
 
-moved : (qp r1 imm other : ℕ) → other < 2 ^ 64 → IsListedX (record { qp = qp; op = op.Movl r1 imm }) → IsListedX (record { qp = qp; op = op.Movl r1 other })
+moved : (qp r1 imm other : ℕ) → other < 2 ^ 64 → IsListedX (record { qp = qp; op = op.Movl r1 imm })
+    → IsListedX (record { qp = qp; op = op.Movl r1 other })
 moved qp r1 imm other h l = of_row_x _ (row_moved qp r1 imm other (row_of_x _ l).0) h
 
 unit_moved : (qp r1 imm other : ℕ) (u : ExecutionUnit) (slot : ℕ) → other < 2 ^ 64
@@ -69,8 +76,10 @@ fits_addressed : (qp : ℕ) (x : Op) (a : Address) (n : ℕ) (u : ExecutionUnit)
     → Fits (record { qp = qp; op = x }) u slot → IfSome (addressed x a n) (λ y. Fits (record { qp = qp; op = y }) u slot)
 fits_addressed qp (op.ChkS v r2 disp) (Bundle m) n u slot h k f = fits_aimed qp (op.ChkS v r2 disp) _ u slot (near m n h k) f
 fits_addressed qp (op.ChkA clear r1 disp) (Bundle m) n u slot h k f = fits_aimed qp (op.ChkA clear r1 disp) _ u slot (near m n h k) f
-fits_addressed qp (op.Br kind wh many clr disp) (Bundle m) n u slot h k f = fits_aimed qp (op.Br kind wh many clr disp) _ u slot (near m n h k) f
-fits_addressed qp (op.BrCall b1 wh many clr disp) (Bundle m) n u slot h k f = fits_aimed qp (op.BrCall b1 wh many clr disp) _ u slot (near m n h k) f
+fits_addressed qp (op.Br kind wh many clr disp) (Bundle m) n u slot h k f =
+    fits_aimed qp (op.Br kind wh many clr disp) _ u slot (near m n h k) f
+fits_addressed qp (op.BrCall b1 wh many clr disp) (Bundle m) n u slot h k f =
+    fits_aimed qp (op.BrCall b1 wh many clr disp) _ u slot (near m n h k) f
 fits_addressed qp (op.Movl r1 imm) (Bundle m) n u slot h k f = fits_moved qp r1 imm (bundle_address m) u slot (omega (arith, h)) f
 fits_addressed qp (op.Movl r1 imm) (Byte at) n u slot h k f = fits_moved qp r1 imm (data_address at) u slot (omega (arith, h)) f
 fits_addressed qp x a n u slot h k f = tt
@@ -86,7 +95,8 @@ IfSome-weaken P Q None f p = tt
 IfSome-weaken P Q (Some y) f p = f y p
 
 -- Its target, where it has one, is the bundle of the label.
-pub target_inside : (count : ℕ) (x : Op) (a : Address) (n : ℕ) → IsInside count a → IfSome (addressed x a n) (λ y. IfSome (displacement y) (IsBundleAt count n))
+pub target_inside : (count : ℕ) (x : Op) (a : Address) (n : ℕ) → IsInside count a
+    → IfSome (addressed x a n) (λ y. IfSome (displacement y) (IsBundleAt count n))
 target_inside count (op.ChkS u r2 disp) (Bundle m) n h = at_bundle count m n h
 target_inside count (op.ChkA clear r1 disp) (Bundle m) n h = at_bundle count m n h
 target_inside count (op.Br kind wh many clr disp) (Bundle m) n h = at_bundle count m n h

@@ -26,7 +26,8 @@ word_bytes a b c d e f g h la lb lc ld le lf lg lh =
     each (suc (suc (suc (suc (suc (suc (suc zero))))))) = lh
     each (suc (suc (suc (suc (suc (suc (suc (suc i)))))))) = omega arith
 
-word_below : (a b c d e f g h : ℕ) → a < 256 → b < 256 → c < 256 → d < 256 → e < 256 → f < 256 → g < 256 → h < 256 → data_word a b c d e f g h < 2 ^ 64
+word_below : (a b c d e f g h : ℕ) → a < 256 → b < 256 → c < 256 → d < 256 → e < 256 → f < 256 → g < 256 → h < 256
+    → data_word a b c d e f g h < 2 ^ 64
 word_below a b c d e f g h la lb lc ld le lf lg lh = omega (arith, la, lb, lc, ld, le, lf, lg, lh)
 
 abbrev pub AreWords : List ℕ → Type 0
@@ -35,7 +36,10 @@ AreWords (w ∷ ws) = (w < 2 ^ 64) × AreWords ws
 
 -- The words of bytes are below 2^64.
 pub words_small : (bytes : List ℕ) → AreBytes bytes → AreWords (words_of bytes)
-words_small (a ∷ b ∷ c ∷ d ∷ e ∷ f ∷ g ∷ h ∷ rest) small = (word_below a b c d e f g h (small 0) (small 1) (small 2) (small 3) (small 4) (small 5) (small 6) (small 7), words_small rest (λ k. small (suc (suc (suc (suc (suc (suc (suc (suc k))))))))))
+words_small (a ∷ b ∷ c ∷ d ∷ e ∷ f ∷ g ∷ h ∷ rest) small = (
+  word_below a b c d e f g h (small 0) (small 1) (small 2) (small 3) (small 4) (small 5) (small 6) (small 7),
+  words_small rest (λ k. small (suc (suc (suc (suc (suc (suc (suc (suc k))))))))),
+)
 words_small _ small = tt
 
 -- Bytes, in number a multiple of eight, are those of their words.
@@ -49,5 +53,7 @@ words_back (a ∷ b ∷ c ∷ d ∷ e ∷ []) small h = absurd (omega (arith, h)
 words_back (a ∷ b ∷ c ∷ d ∷ e ∷ f ∷ []) small h = absurd (omega (arith, h))
 words_back (a ∷ b ∷ c ∷ d ∷ e ∷ f ∷ g ∷ []) small h = absurd (omega (arith, h))
 words_back (a ∷ b ∷ c ∷ d ∷ e ∷ f ∷ g ∷ i ∷ rest) small h =
-    ap (λ bs. take 8 bs ++ numbers_bytes 8 (words_of rest)) (word_bytes a b c d e f g i (small 0) (small 1) (small 2) (small 3) (small 4) (small 5) (small 6) (small 7))
-    ∙ ap (λ bs. a ∷ b ∷ c ∷ d ∷ e ∷ f ∷ g ∷ i ∷ bs) (words_back rest (λ k. small (suc (suc (suc (suc (suc (suc (suc (suc k))))))))) (omega (arith, h)))
+    ap (λ bs. take 8 bs ++ numbers_bytes 8 (words_of rest)) (word_bytes a b c d e f g i (small 0) (small 1) (small 2) (small 3) (small 4)
+    (small 5) (small 6) (small 7))
+    ∙ ap (λ bs. a ∷ b ∷ c ∷ d ∷ e ∷ f ∷ g ∷ i ∷ bs) (words_back rest (λ k. small (suc (suc (suc (suc (suc (suc (suc (suc k)))))))))
+    (omega (arith, h)))

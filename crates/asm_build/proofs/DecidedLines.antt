@@ -28,7 +28,8 @@ same_section section.Data section.Text = no (λ e. cc)
 same_section section.Data section.Data = yes refl
 
 pub is_in : (part : Section) (s : TextParts) → Dec (IsIn part s)
-is_in part s = alike (both (is_none s.current) (same_section s.section part)) (λ h. record { closed = h.0; same = h.1 }) (λ h. (h.closed, h.same))
+is_in part s =
+    alike (both (is_none s.current) (same_section s.section part)) (λ h. record { closed = h.0; same = h.1 }) (λ h. (h.closed, h.same))
 
 has_some : (lines : SlotLines) → Dec (HasSome lines)
 has_some slots.Zero = no (λ h. h)

@@ -66,12 +66,14 @@ from_place bundles (suc left) (Some place) run few r has most =
           let reached = goes_on bundles (IsWithinRun bundles) place n.0 r (within_run bundles place run has small) n.1 in
           elim (ends_run bundles place) [
             | yes ends ↦ from_place bundles left n.0 0 (omega arith) reached (run_ends bundles place n.0 r.is ends n.1) (omega arith)
-            | no on ↦ from_place bundles left n.0 (run + 1) (omega arith) reached (run_goes_on bundles place n.0 run r.is on has n.1) (omega arith)
+            | no on ↦ from_place bundles left n.0 (run + 1) (omega arith) reached (run_goes_on bundles place n.0 run r.is on has n.1)
+                (omega arith)
           ]
     ]
 
 pub long_run_or_none : (bundles : List Bundle) → HasLongRunOrNone bundles
 long_run_or_none [] = inr (λ place is. absurd (let s = bundle_small [] place is in omega arith))
 long_run_or_none (b ∷ bs) =
-    from_place (b ∷ bs) (slots_left (length (b ∷ bs)) (Some (record { bundle = 0; slot = 0 }))) (Some (record { bundle = 0; slot = 0 })) 0 (omega arith)
+    from_place (b ∷ bs) (slots_left (length (b ∷ bs)) (Some (record { bundle = 0; slot = 0 })))
+    (Some (record { bundle = 0; slot = 0 })) 0 (omega arith)
     (first_reached (b ∷ bs) (IsWithinRun (b ∷ bs)) (omega arith)) (first_run (b ∷ bs)) (omega arith)

@@ -33,7 +33,8 @@ of_entry : (o : Option ℕ) (line : ℕ) (entries : List ℕ) → IfErr (declare
 of_entry None line entries = (line, NoLabel, refl)
 of_entry (Some n) line entries = within (nat_lt ENTRY_LIMIT (length (declared entries n))) line (declared entries n)
 
-of_next : (r : Result (List ℕ) TextError) (next : List ℕ → Result (List ℕ) TextError) → IfErr r IsOfLine → ((entries : List ℕ) → IfErr (next entries) IsOfLine)
+of_next : (r : Result (List ℕ) TextError) (next : List ℕ → Result (List ℕ) TextError) → IfErr r IsOfLine
+    → ((entries : List ℕ) → IfErr (next entries) IsOfLine)
     → IfErr (and_then r next) IsOfLine
 of_next (Ok entries) next is later = later entries
 of_next (Err e) next is later = is
@@ -59,7 +60,8 @@ name_of_line : (s : TextParts) → IfSome (name_fault s) IsOfLine
 name_of_line s = of_names (unnamed_bundle s.labels 0 s.bundles) (all_declared s.labels [] s.entries) (of_entries s.labels [] s.entries)
 
 -- Of relations.
-pub of_relations : (IsEntry : ℕ → Type 0) (before : List Relation) (lines : List RelationLine) (e : TextError) → IsFirstFault (relation_stages IsEntry before lines) e → IsOfLine e
+pub of_relations : (IsEntry : ℕ → Type 0) (before : List Relation) (lines : List RelationLine) (e : TextError)
+    → IsFirstFault (relation_stages IsEntry before lines) e → IsOfLine e
 of_relations IsEntry before [] e never = absurd never
 of_relations IsEntry before (l ∷ ls) e (inl (key, is, other)) = (l.line, reason.Relation, is)
 of_relations IsEntry before (l ∷ ls) e (inr (entry, inl (key, is, over))) = (l.line, Limit, is)
@@ -73,5 +75,6 @@ end_of_line count s e (inr (closed, inr (some, inl (named, is, found)))) =
     (h.0, h.1, is ∙ h.2)
 end_of_line count s e (inr (closed, inr (some, inr (none, inl (related, is, found))))) =
     subst IsOfLine (sym is) (of_relations (IsEntryOf (program_of s).bundles (program_of s).entries) [] s.relations related found)
-end_of_line count s e (inr (closed, inr (some, inr (none, inr (relations, inl (place, is, long)))))) = (line_at s.bundles place, LongRun, is)
+end_of_line count s e (inr (closed, inr (some, inr (none, inr (relations, inl (place, is, long)))))) =
+    (line_at s.bundles place, LongRun, is)
 end_of_line count s e (inr (closed, inr (some, inr (none, inr (relations, inr (runs, never)))))) = absurd never

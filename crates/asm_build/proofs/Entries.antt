@@ -47,7 +47,8 @@ declared_rise count n entries h rise = elim (cases_eq n 0) [
 
 limited : (count line : ℕ) (ns : List ℕ) → RiseFrom 0 count ns → IfOk (within_limit line ns) (AreGood count)
 limited count line ns rise =
-    elim (nat_lt ENTRY_LIMIT (length ns)) as (λ b. nat_lt ENTRY_LIMIT (length ns) ≡ b → IfOk (if b then Err (error.Fault line Limit) else Ok ns) (AreGood count)) [
+    elim (nat_lt ENTRY_LIMIT (length ns)) as (λ b. nat_lt ENTRY_LIMIT (length ns) ≡ b
+    → IfOk (if b then Err (error.Fault line Limit) else Ok ns) (AreGood count)) [
       | true ↦ λ e. tt
       | false ↦ λ e. (rise, ltb-false ENTRY_LIMIT (length ns) e)
     ] refl
@@ -59,7 +60,8 @@ one_declared count line (Some (address.Bundle n)) entries h good =
     limited count line (declared entries n) (declared_rise count n entries h good.0)
 one_declared count line (Some (address.Byte at)) entries h good = tt
 
-same_good : (count : ℕ) (entries out : List ℕ) (r : Result (List ℕ) TextError) → r ≡ Ok entries → AreGood count entries → r ≡ Ok out → AreGood count out
+same_good : (count : ℕ) (entries out : List ℕ) (r : Result (List ℕ) TextError) → r ≡ Ok entries → AreGood count entries → r ≡ Ok out
+    → AreGood count out
 same_good count entries out r is good e = let same : entries ≡ out = cc in subst (AreGood count) same good
 
 -- A result that is good, and goes on to one that is.
@@ -69,7 +71,8 @@ then_good count out (Ok more) next good go e = go more good e
 then_good count out (Err why) next good go e = cc
 
 -- Those that lines name are good.
-pub declared_good : (labels : Labels) (count : ℕ) (entries out : List ℕ) (lines : List EntryLine) → AllByRecursion (IsInside count) (values_of labels)
+pub declared_good : (labels : Labels) (count : ℕ) (entries out : List ℕ) (lines : List EntryLine)
+    → AllByRecursion (IsInside count) (values_of labels)
     → AreGood count entries → all_declared labels entries lines ≡ Ok out → AreGood count out
 declared_good labels count entries out [] inside good e = same_good count entries out (Ok entries) refl good e
 declared_good labels count entries out (l ∷ ls) inside good e =
@@ -82,7 +85,8 @@ floor_from : ℕ → List ℕ → ℕ → ℕ
 floor_from low ns zero = low
 floor_from low ns (suc n) = slice_index ns n
 
-places_rise : (count low : ℕ) (ns : List ℕ) → RiseFrom low count ns → (n : ℕ) → n < length ns → (floor_from low ns n < slice_index ns n) × (slice_index ns n < count)
+places_rise : (count low : ℕ) (ns : List ℕ) → RiseFrom low count ns → (n : ℕ) → n < length ns
+    → (floor_from low ns n < slice_index ns n) × (slice_index ns n < count)
 unfolding floor_from
 places_rise count low [] rise n h = absurd (omega arith)
 places_rise count low (m ∷ ns) rise zero h = (rise.0, rise.1)

@@ -64,8 +64,10 @@ equal_once low n (x ∷ xs) r = elim (cases_eq x n) [
 ]
 
 -- One bundle more.
-pub one_below : (low n : ℕ) (xs : List ℕ) → Rise low xs → entries_below (n + 1) xs ≡ entries_below n xs ++ (if is_among xs n then n ∷ [] else [])
-one_below low n xs r = next_below (λ m. m) n low xs (never_fall low low xs (omega arith) r) ∙ ap (λ ys. entries_below n xs ++ ys) (equal_once low n xs r)
+pub one_below : (low n : ℕ) (xs : List ℕ) → Rise low xs → entries_below (n + 1) xs
+    ≡ entries_below n xs ++ (if is_among xs n then n ∷ [] else [])
+one_below low n xs r =
+    next_below (λ m. m) n low xs (never_fall low low xs (omega arith) r) ∙ ap (λ ys. entries_below n xs ++ ys) (equal_once low n xs r)
 
 -- All of them, one by one.
 pub each_below : (n : ℕ) (xs : List ℕ) → ((k : ℕ) → k < length xs → slice_index xs k < n) → AllByRecursion (λ m. m < n) xs
@@ -91,15 +93,19 @@ push_below : (xs : List ℕ) (n : ℕ) → AllByRecursion (λ m. m < n) xs → A
 push_below [] n h = (omega arith, tt)
 push_below (x ∷ xs) n h = (omega (arith, h.0), push_below xs n h.1)
 
-one_declared : (xs : List ℕ) (n line : ℕ) → AllByRecursion (λ m. m < n) xs → 1 ≤ n → length xs < ENTRY_LIMIT → within_limit line (declared xs n) ≡ Ok (xs ++ n ∷ [])
+one_declared : (xs : List ℕ) (n line : ℕ) → AllByRecursion (λ m. m < n) xs → 1 ≤ n → length xs < ENTRY_LIMIT
+    → within_limit line (declared xs n) ≡ Ok (xs ++ n ∷ [])
 one_declared xs n line h some few =
-    let e : declared xs n ≡ xs ++ n ∷ [] = rw (ne_eqb n 0 (λ z. omega (arith, z, some))) (at_end nat_cmp (λ i j. i < j) numbers_ordered xs n h) in
+    let e : declared xs n ≡ xs ++ n ∷ [] =
+    rw (ne_eqb n 0 (λ z. omega (arith, z, some))) (at_end nat_cmp (λ i j. i < j) numbers_ordered xs n h) in
     let room : nat_lt ENTRY_LIMIT (length (xs ++ n ∷ [])) ≡ false = le-ltb ENTRY_LIMIT _ (omega (arith, few, length-append xs (n ∷ []))) in
     rw (e, room) refl
 
 -- Entries that rise, each with a line whose name is its label, are declared in turn.
-pub declared_in_turn : (labels : Labels) (done rest : List ℕ) (lines : List EntryLine) → map (λ e. e.name) lines ≡ map label_text rest → ((k : ℕ) → k < length rest → address_of labels (label_text (slice_index rest k)) ≡ Some (Bundle (slice_index rest k)))
-    → (low : ℕ) → 1 ≤ low → AllByRecursion (λ m. m < low) done → Rise low rest → length done + length rest ≤ ENTRY_LIMIT → all_declared labels done lines ≡ Ok (done ++ rest)
+pub declared_in_turn : (labels : Labels) (done rest : List ℕ) (lines : List EntryLine) → map (λ e. e.name) lines ≡ map label_text rest
+    → ((k : ℕ) → k < length rest → address_of labels (label_text (slice_index rest k)) ≡ Some (Bundle (slice_index rest k)))
+    → (low : ℕ) → 1 ≤ low → AllByRecursion (λ m. m < low) done → Rise low rest → length done + length rest ≤ ENTRY_LIMIT
+    → all_declared labels done lines ≡ Ok (done ++ rest)
 declared_in_turn labels done [] [] names found low some before rise few = ap (λ xs. Ok xs) (sym (append-nil done))
 declared_in_turn labels done (n ∷ rest) [] names found low some before rise few = cc
 declared_in_turn labels done [] (l ∷ lines) names found low some before rise few = cc
@@ -108,7 +114,10 @@ declared_in_turn labels done (n ∷ rest) (l ∷ lines) names found low some bef
     let others : map (λ e. e.name) lines ≡ map label_text rest = cc in
     let here : address_of labels l.name ≡ Some (Bundle n) = ap (address_of labels) name ∙ found 0 (omega arith) in
     let lower = lower_all low n done rise.0 before in
-    let one : declared_by (bundle_at (address_of labels l.name)) l.line done ≡ Ok (done ++ n ∷ []) = ap (λ o. declared_by (bundle_at o) l.line done) here ∙ one_declared done n l.line lower (omega (arith, some, rise.0)) (omega (arith, few)) in
+    let one : declared_by (bundle_at (address_of labels l.name)) l.line done ≡ Ok (done ++ n ∷ []) =
+    ap (λ o. declared_by (bundle_at o) l.line done) here ∙ one_declared done n l.line lower (omega (arith, some, rise.0))
+    (omega (arith, few)) in
     ap (λ r. and_then r (λ more. all_declared labels more lines)) one
-    ∙ declared_in_turn labels (done ++ n ∷ []) rest lines others (λ k less. found (suc k) (omega (arith, less))) (n + 1) (omega arith) (push_below done n lower) rise.1 (omega (arith, few, length-append done (n ∷ [])))
+    ∙ declared_in_turn labels (done ++ n ∷ []) rest lines others (λ k less. found (suc k) (omega (arith, less))) (n + 1) (omega arith)
+    (push_below done n lower) rise.1 (omega (arith, few, length-append done (n ∷ [])))
     ∙ ap (λ xs. Ok xs) (append_assoc done (n ∷ []) rest)

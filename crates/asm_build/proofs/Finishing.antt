@@ -61,11 +61,13 @@ abbrev pub AreRelated : TextParts → Type 0
 AreRelated s = ArePassed (relation_stages (IsEntryOf (program_of s).bundles (program_of s).entries) [] s.relations)
 
 pub in_range : (s : TextParts) → IsWithinLimits s → 1 ≤ length s.bundles → AreLabelsInside s → name_fault s ≡ None → AreRelated s
-    → AreInRange (length (program_of s).bundles) (length (program_of s).entries) (length (program_of s).bytes) (length (program_of s).relations)
+    → AreInRange (length (program_of s).bundles) (length (program_of s).entries) (length (program_of s).bytes)
+    (length (program_of s).relations)
 in_range s limits some inside none related =
     let count : length (program_of s).bundles ≡ length s.bundles = length_named s.labels 0 s.bundles in
     let zeros = (8 - length s.bytes % 8) % 8 in
-    let size : length (padded s.bytes) ≡ length s.bytes + zeros = length-append s.bytes (replicate zeros 0) ∙ ap (λ k. length s.bytes + k) (length-replicate zeros 0) in
+    let size : length (padded s.bytes) ≡ length s.bytes + zeros =
+    length-append s.bytes (replicate zeros 0) ∙ ap (λ k. length s.bytes + k) (length-replicate zeros 0) in
     let fits = padded_length (length s.bytes) limits.bytes in
     record {
       some = rw count some;
@@ -76,7 +78,8 @@ in_range s limits some inside none related =
       relations = few_related (IsEntryOf (program_of s).bundles (program_of s).entries) [] s.relations (omega arith) related;
     }
 
-pub entries_are : (s : TextParts) → AreLabelsInside s → name_fault s ≡ None → AreEntries (length (program_of s).bundles) (program_of s).entries
+pub entries_are : (s : TextParts) → AreLabelsInside s → name_fault s ≡ None
+    → AreEntries (length (program_of s).bundles) (program_of s).entries
 entries_are s inside none =
     rw (length_named s.labels 0 s.bundles) (entries_of_rising (length s.bundles) (program_of s).entries (entries_good s inside none).0)
 
@@ -114,7 +117,8 @@ abbrev AreTargetsInside : ℕ → ℕ → Slots → Type 0
 AreTargetsInside count n (Three i j k) = HasTargetInside count n i.op × HasTargetInside count n j.op × HasTargetInside count n k.op
 AreTargetsInside count n (Long i j) = HasTargetInside count n i.op × HasTargetInside count n j.op
 
-found_none : (p : Bool) (s : Insn × SlotName) (rest : Option (Insn × SlotName)) → option_map (λ (x : Insn × SlotName). x.1.line) (cond (not p) (Some s) rest) ≡ None
+found_none : (p : Bool) (s : Insn × SlotName) (rest : Option (Insn × SlotName))
+    → option_map (λ (x : Insn × SlotName). x.1.line) (cond (not p) (Some s) rest) ≡ None
     → (p ≡ true) × (option_map (λ (x : Insn × SlotName). x.1.line) rest ≡ None)
 found_none true s rest e = (refl, e)
 found_none false s rest e = cc
@@ -139,7 +143,8 @@ both_none None p e = (refl, e)
 both_none (Some line) p e = cc
 
 -- Each slot of each bundle from the n-th on, with the address of its name, has its target inside.
-bundles_inside : (labels : Labels) (count n : ℕ) (bs : List BundleLines) → AllByRecursion (IsInside count) (values_of labels) → unnamed_bundle labels n bs ≡ None
+bundles_inside : (labels : Labels) (count n : ℕ) (bs : List BundleLines) → AllByRecursion (IsInside count) (values_of labels)
+    → unnamed_bundle labels n bs ≡ None
     → (k m : ℕ) → m ≡ n + k → IfSome (slice_get (bundles_named labels n bs) k) (λ b. AreTargetsInside count m b.slots)
 bundles_inside labels count n [] all none k m is = tt
 bundles_inside labels count n (b ∷ bs) all none zero m is =
@@ -150,34 +155,41 @@ bundles_inside labels count n (b ∷ bs) all none (suc k) m is =
     let one = both_none (unnamed_slot labels n b) (unnamed_bundle labels (n + 1) bs) none in
     bundles_inside labels count (n + 1) bs all one.1 k m (omega (arith, is))
 
-if_slot : (count n : ℕ) (here : Bool) (i : Insn) (other : Option Insn) → HasTargetInside count n i.op → IfSome other (λ i. HasTargetInside count n i.op)
+if_slot : (count n : ℕ) (here : Bool) (i : Insn) (other : Option Insn) → HasTargetInside count n i.op
+    → IfSome other (λ i. HasTargetInside count n i.op)
     → IfSome (if here then Some i else other) (λ i. HasTargetInside count n i.op)
 if_slot count n true i other p q = p
 if_slot count n false i other p q = q
 
-at_slot : (count n : ℕ) (slots : Slots) (slot : ℕ) → AreTargetsInside count n slots → IfSome (slot_insn slots slot) (λ i. HasTargetInside count n i.op)
+at_slot : (count n : ℕ) (slots : Slots) (slot : ℕ) → AreTargetsInside count n slots
+    → IfSome (slot_insn slots slot) (λ i. HasTargetInside count n i.op)
 at_slot count n (Three a b c) slot h =
     if_slot count n (slot == 0) a _ h.0 (if_slot count n (slot == 1) b _ h.1 (if_slot count n (slot == 2) c None h.2 tt))
 at_slot count n (Long first long) slot h = if_slot count n (slot == 0) first _ h.0 (if_slot count n (slot == 1) long None h.1 tt)
 
-at_place : (count n slot : ℕ) (o : Option Bundle) → IfSome o (λ b. AreTargetsInside count n b.slots) → IfSome (bundle_insn o slot) (λ i. HasTargetInside count n i.op)
+at_place : (count n slot : ℕ) (o : Option Bundle) → IfSome o (λ b. AreTargetsInside count n b.slots)
+    → IfSome (bundle_insn o slot) (λ i. HasTargetInside count n i.op)
 at_place count n slot None h = tt
 at_place count n slot (Some b) h = at_slot count n b.slots slot h
 
 -- The target of each place is a bundle of the program.
-pub targets_are : (s : TextParts) → AreLabelsInside s → name_fault s ≡ None → EachPlace (program_of s).bundles (IsTargetInside (program_of s).bundles)
+pub targets_are : (s : TextParts) → AreLabelsInside s → name_fault s ≡ None
+    → EachPlace (program_of s).bundles (IsTargetInside (program_of s).bundles)
 unfolding insn_at
 targets_are s inside none place is =
     let named = no_fault_named (unnamed_bundle s.labels 0 s.bundles) (all_declared s.labels [] s.entries) none in
     rw (length_named s.labels 0 s.bundles)
-    (at_place (length s.bundles) place.bundle place.slot (slice_get (program_of s).bundles place.bundle) (bundles_inside s.labels (length s.bundles) 0 s.bundles inside named.0 place.bundle place.bundle (omega arith)))
+    (at_place (length s.bundles) place.bundle place.slot (slice_get (program_of s).bundles place.bundle)
+    (bundles_inside s.labels (length s.bundles) 0 s.bundles inside named.0 place.bundle place.bundle (omega arith)))
 
 -- Lines have none where they have none among the program's bundles and entries.
-pub related_of : (s : TextParts) (bundles : List Bundle) (entries : List ℕ) (lines : List RelationLine) → bundles ≡ (program_of s).bundles → entries ≡ (program_of s).entries → lines ≡ s.relations
+pub related_of : (s : TextParts) (bundles : List Bundle) (entries : List ℕ) (lines : List RelationLine) → bundles ≡ (program_of s).bundles
+    → entries ≡ (program_of s).entries → lines ≡ s.relations
     → ArePassed (relation_stages (IsEntryOf bundles entries) [] lines) → AreRelated s
 related_of s bundles entries lines bs es ls passed =
     subst (λ cs. ArePassed (relation_stages (IsEntryOf cs (program_of s).entries) [] s.relations)) bs
-    (subst (λ fs. ArePassed (relation_stages (IsEntryOf bundles fs) [] s.relations)) es (subst (λ ks. ArePassed (relation_stages (IsEntryOf bundles entries) [] ks)) ls passed))
+    (subst (λ fs. ArePassed (relation_stages (IsEntryOf bundles fs) [] s.relations)) es
+    (subst (λ ks. ArePassed (relation_stages (IsEntryOf bundles entries) [] ks)) ls passed))
 
 -- What is known of bundles, entries, data and relations that are the program's: their counts and entries are right.
 pub record AreParts (s : TextParts) (bundles : List Bundle) (entries bytes : List ℕ) (relations : List Relation) : Type 0 where
@@ -191,31 +203,38 @@ pub record AreParts (s : TextParts) (bundles : List Bundle) (entries bytes : Lis
   pub related : AreRelated s
   pub relations_are : relations ≡ (program_of s).relations
 
-pub parts_in_range : (s : TextParts) (bundles : List Bundle) (entries bytes : List ℕ) (relations : List Relation) → AreParts s bundles entries bytes relations
+pub parts_in_range : (s : TextParts) (bundles : List Bundle) (entries bytes : List ℕ) (relations : List Relation)
+    → AreParts s bundles entries bytes relations
     → AreInRange (length bundles) (length entries) (length bytes) (length relations)
 parts_in_range s bundles entries bytes relations h =
     rw (h.bundles_are, h.entries_are, h.bytes_are, h.relations_are) (in_range s h.limits h.some h.inside h.none h.related)
 
-pub parts_rise : (s : TextParts) (bundles : List Bundle) (entries bytes : List ℕ) (relations : List Relation) → AreParts s bundles entries bytes relations → AreEntries (length bundles) entries
+pub parts_rise : (s : TextParts) (bundles : List Bundle) (entries bytes : List ℕ) (relations : List Relation)
+    → AreParts s bundles entries bytes relations → AreEntries (length bundles) entries
 parts_rise s bundles entries bytes relations h = rw (h.bundles_are, h.entries_are) (entries_are s h.inside h.none)
 
-pub parts_inside : (s : TextParts) (bundles : List Bundle) (entries bytes : List ℕ) (relations : List Relation) → AreParts s bundles entries bytes relations → EachPlace bundles (IsTargetInside bundles)
+pub parts_inside : (s : TextParts) (bundles : List Bundle) (entries bytes : List ℕ) (relations : List Relation)
+    → AreParts s bundles entries bytes relations → EachPlace bundles (IsTargetInside bundles)
 parts_inside s bundles entries bytes relations h = rw h.bundles_are (targets_are s h.inside h.none)
 
 -- After the last line there was no fault but the run.
-pub run_is_first : (count : ℕ) (s : TextParts) (place : Place) (line : ℕ) → s.current ≡ None → AreLabelsInside s → 1 ≤ length s.bundles → name_fault s ≡ None → AreRelated s
+pub run_is_first : (count : ℕ) (s : TextParts) (place : Place) (line : ℕ) → s.current ≡ None → AreLabelsInside s → 1 ≤ length s.bundles
+    → name_fault s ≡ None → AreRelated s
     → IsFirstBad (program_of s).bundles (IsWithinRun (program_of s).bundles) place → line ≡ line_at s.bundles place
     → IsFirstFault (end_stages count s) (error.Fault line LongRun)
 run_is_first count s place line closed inside some none related first is =
     inr ((closed, inside), inr (some, inr (none, inr (related, inl (place, ap (λ l. error.Fault l LongRun) is, first)))))
 
 -- The fault of a run is the first fault of the text.
-pub run_reported : {T : Type 0} (count : ℕ) (s : TextParts) (lines : List BundleLines) (bundles : List Bundle) (r : Result T TextError) → s.current ≡ None → AreLabelsInside s → 1 ≤ length s.bundles → name_fault s ≡ None → AreRelated s
+pub run_reported : {T : Type 0} (count : ℕ) (s : TextParts) (lines : List BundleLines) (bundles : List Bundle) (r : Result T TextError)
+    → s.current ≡ None → AreLabelsInside s → 1 ≤ length s.bundles → name_fault s ≡ None → AreRelated s
     → lines ≡ s.bundles → bundles ≡ (program_of s).bundles
     → IfErr r (λ e. (place : Place) × IsFirstBad bundles (IsWithinRun bundles) place × (e ≡ error.Fault (line_at lines place) LongRun))
     → IfErr r (λ e. (e ≡ error.Memory) ⊎ IsFirstFault (end_stages count s) e)
 run_reported count s lines bundles (Ok t) closed inside some none related same are h = tt
 run_reported count s lines bundles (Err e) closed inside some none related same are (place, first, is) =
     let line : line_at lines place ≡ line_at s.bundles place = ap (λ b. line_at b place) same in
-    let fault = run_is_first count s place (line_at lines place) closed inside some none related (subst (λ b. IsFirstBad b (IsWithinRun b) place) are first) line in
+    let fault =
+    run_is_first count s place (line_at lines place) closed inside some none related
+    (subst (λ b. IsFirstBad b (IsWithinRun b) place) are first) line in
     inr (subst (IsFirstFault (end_stages count s)) (sym is) fault)

@@ -19,19 +19,23 @@ KeysFrom key low (x ∷ xs) = (low ≤ key x) × KeysFrom key (key x) xs
 
 none_below : {X : Type 0} (key : X → ℕ) (n low : ℕ) (xs : List X) → n ≤ low → KeysFrom key low xs → below key n xs ≡ []
 none_below key n low [] h from = refl
-none_below key n low (x ∷ xs) h from = rw (le-ltb (key x) n (omega (arith, h, from.0))) (none_below key n (key x) xs (omega (arith, h, from.0)) from.1)
+none_below key n low (x ∷ xs) h from =
+    rw (le-ltb (key x) n (omega (arith, h, from.0))) (none_below key n (key x) xs (omega (arith, h, from.0)) from.1)
 
 -- Those with the number as their key come first, where none is below it.
 first_ones : {X : Type 0} (key : X → ℕ) (n low : ℕ) (xs : List X) → n ≤ low → KeysFrom key low xs → below key (n + 1) xs ≡ with_key key n xs
 first_ones key n low [] h from = refl
 first_ones key n low (x ∷ xs) h from = elim (cases_order (key x) n) [
-  | inl same ↦ rw (lt-ltb (key x) (n + 1) (omega (arith, same)), eq-eqb (key x) n same) (ap (λ ys. x ∷ ys) (first_ones key n (key x) xs (omega (arith, h, from.0)) from.1))
+  | inl same ↦ rw (lt-ltb (key x) (n + 1) (omega (arith, same)), eq-eqb (key x) n same)
+      (ap (λ ys. x ∷ ys) (first_ones key n (key x) xs (omega (arith, h, from.0)) from.1))
   | inr (inl less) ↦ absurd (omega (arith, less, h, from.0))
-  | inr (inr more) ↦ rw (le-ltb (key x) (n + 1) (omega (arith, more)), ne_eqb (key x) n (λ e. omega (arith, more, e))) (first_ones key n (key x) xs (omega (arith, h, from.0)) from.1)
+  | inr (inr more) ↦ rw (le-ltb (key x) (n + 1) (omega (arith, more)), ne_eqb (key x) n (λ e. omega (arith, more, e)))
+      (first_ones key n (key x) xs (omega (arith, h, from.0)) from.1)
 ]
 
 -- One number more.
-pub next_below : {X : Type 0} (key : X → ℕ) (n low : ℕ) (xs : List X) → KeysFrom key low xs → below key (n + 1) xs ≡ below key n xs ++ with_key key n xs
+pub next_below : {X : Type 0} (key : X → ℕ) (n low : ℕ) (xs : List X) → KeysFrom key low xs
+    → below key (n + 1) xs ≡ below key n xs ++ with_key key n xs
 next_below key n low [] from = refl
 next_below key n low (x ∷ xs) from = elim (cases_lt (key x) n) [
   | inl less ↦

@@ -12,12 +12,14 @@ use Rattle.asm_build.specs.Addresses.{IsReachable}
 use Rattle.asm_build.specs.TextParts.{Labels, address_of}
 
 -- What holds of each label's value holds of the value that is found.
-pub found_among : (P : Address → Type 0) (test : List ℕ → Bool) (labels : Labels) → AllByRecursion P (values_of labels) → IfSome (lookup test labels) P
+pub found_among : (P : Address → Type 0) (test : List ℕ → Bool) (labels : Labels) → AllByRecursion P (values_of labels)
+    → IfSome (lookup test labels) P
 found_among P test [] all = tt
 found_among P test (e ∷ es) all =
     elim (test e.0) as (λ b. IfSome (cond b (Some e.1) (lookup test es)) P) [ true ↦ all.0 | false ↦ found_among P test es all.1 ]
 
-pub label_within : (P : Address → Type 0) (labels : Labels) (name : List ℕ) → AllByRecursion P (values_of labels) → IfSome (address_of labels name) P
+pub label_within : (P : Address → Type 0) (labels : Labels) (name : List ℕ) → AllByRecursion P (values_of labels)
+    → IfSome (address_of labels name) P
 label_within P labels name all = found_among P (is_at (slice_cmp nat_cmp name)) labels all
 
 -- What holds of each label's value and of one more holds with that one inserted.
@@ -25,13 +27,15 @@ pub kept_among : (P : Address → Type 0) (labels : Labels) (name : List ℕ) (a
     → AllByRecursion P (values_of (insert_entry (slice_cmp nat_cmp) labels name a))
 kept_among P [] name a all p = (p, tt)
 kept_among P (e ∷ es) name a all p =
-    elim (slice_cmp nat_cmp name e.0) as (λ o. AllByRecursion P (values_of (match_ordering o ((name, a) ∷ e ∷ es) ((e.0, a) ∷ es) (e ∷ insert_entry (slice_cmp nat_cmp) es name a)))) [
+    elim (slice_cmp nat_cmp name e.0) as (λ o. AllByRecursion P (values_of
+    (match_ordering o ((name, a) ∷ e ∷ es) ((e.0, a) ∷ es) (e ∷ insert_entry (slice_cmp nat_cmp) es name a)))) [
       | Less ↦ (p, all)
       | Equal ↦ (p, all.1)
       | Greater ↦ (all.0, kept_among P es name a all.1 p)
     ]
 
 -- Labels stay within reach with one more that is.
-pub label_added : (name : List ℕ) (a : Address) (before labels : Labels) → AllByRecursion IsReachable (values_of before) → IsReachable a → labels ≡ insert_entry (slice_cmp nat_cmp) before name a
+pub label_added : (name : List ℕ) (a : Address) (before labels : Labels) → AllByRecursion IsReachable (values_of before) → IsReachable a
+    → labels ≡ insert_entry (slice_cmp nat_cmp) before name a
     → AllByRecursion IsReachable (values_of labels)
 label_added name a before labels all within grown = rw grown (kept_among IsReachable before name a all within)

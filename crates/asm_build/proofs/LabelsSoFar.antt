@@ -25,7 +25,9 @@ differ m n a b other = by (slice_cmp nat_cmp (label_text m) (label_text n)) refl
   where
     by : (r : Ordering) → slice_cmp nat_cmp (label_text m) (label_text n) ≡ r → is_eq r ≡ false
     by Less h = refl
-    by Equal h = absurd (other (decimal_injective m n (omega (arith, a)) (omega (arith, b)) (ap (drop 1) (exact_bytes (label_text m) (label_text n) h))))
+    by Equal h =
+        absurd (other (decimal_injective m n (omega (arith, a)) (omega (arith, b))
+        (ap (drop 1) (exact_bytes (label_text m) (label_text n) h))))
     by Greater h = refl
 
 -- The bundles before the n-th that are entries or targets have labels, and no other has. Each is one of `count` bundles.
@@ -43,29 +45,36 @@ no_labels entries targets count = record {
 }
 
 -- The label of the n-th bundle.
-pub one_label : (entries targets : List ℕ) (count n : ℕ) (labels : Labels) → n < count → count ≤ BUNDLE_LIMIT → HasLabels entries targets count n labels
+pub one_label : (entries targets : List ℕ) (count n : ℕ) (labels : Labels) → n < count → count ≤ BUNDLE_LIMIT
+    → HasLabels entries targets count n labels
     → HasLabels entries targets count (n + 1) (insert_entry (slice_cmp nat_cmp) labels (label_text n) (Bundle n))
 one_label entries targets count n labels less few h = record {
   named = λ m before is. at m (last_or_below m n (omega (arith, before))) is;
-  later = λ m more low. put_elsewhere (slice_cmp nat_cmp) nat_list_cmp_total labels (label_text n) (Bundle n) (label_text m) (differ m n low (omega (arith, less, few)) (λ e. omega (arith, e, more))) ∙ h.later m (omega (arith, more)) low;
+  later =
+      λ m more low. put_elsewhere (slice_cmp nat_cmp) nat_list_cmp_total labels (label_text n) (Bundle n) (label_text m)
+      (differ m n low (omega (arith, less, few)) (λ e. omega (arith, e, more))) ∙ h.later m (omega (arith, more)) low;
   inside = kept_among (IsInside count) labels (label_text n) (Bundle n) h.inside less;
 }
   where
-    at : (m : ℕ) → (m ≡ n) ⊎ (m < n) → (is_among entries m || is_among targets m) ≡ true → address_of (insert_entry (slice_cmp nat_cmp) labels (label_text n) (Bundle n)) (label_text m) ≡ Some (Bundle m)
+    at : (m : ℕ) → (m ≡ n) ⊎ (m < n) → (is_among entries m || is_among targets m) ≡ true
+        → address_of (insert_entry (slice_cmp nat_cmp) labels (label_text n) (Bundle n)) (label_text m) ≡ Some (Bundle m)
     at m (inl e) is =
         subst (λ k. address_of (insert_entry (slice_cmp nat_cmp) labels (label_text n) (Bundle n)) (label_text k) ≡ Some (Bundle k)) (sym e)
         (put_here (slice_cmp nat_cmp) labels (label_text n) (Bundle n) (tied_itself nat_list_cmp_total (label_text n)))
     at m (inr before) is =
-        put_elsewhere (slice_cmp nat_cmp) nat_list_cmp_total labels (label_text n) (Bundle n) (label_text m) (differ m n (omega (arith, before, less, few)) (omega (arith, less, few)) (λ e. omega (arith, e, before))) ∙ h.named m before is
+        put_elsewhere (slice_cmp nat_cmp) nat_list_cmp_total labels (label_text n) (Bundle n) (label_text m)
+        (differ m n (omega (arith, before, less, few)) (omega (arith, less, few)) (λ e. omega (arith, e, before))) ∙ h.named m before is
 
 -- A bundle without a label.
-pub same_labels : (entries targets : List ℕ) (count n : ℕ) (labels : Labels) → (is_among entries n || is_among targets n) ≡ false → HasLabels entries targets count n labels → HasLabels entries targets count (n + 1) labels
+pub same_labels : (entries targets : List ℕ) (count n : ℕ) (labels : Labels) → (is_among entries n || is_among targets n) ≡ false
+    → HasLabels entries targets count n labels → HasLabels entries targets count (n + 1) labels
 same_labels entries targets count n labels other h = record {
   named = λ m before is. at m (last_or_below m n (omega (arith, before))) is;
   later = λ m more low. h.later m (omega (arith, more)) low;
   inside = h.inside;
 }
   where
-    at : (m : ℕ) → (m ≡ n) ⊎ (m < n) → (is_among entries m || is_among targets m) ≡ true → address_of labels (label_text m) ≡ Some (Bundle m)
+    at : (m : ℕ) → (m ≡ n) ⊎ (m < n) → (is_among entries m || is_among targets m) ≡ true
+        → address_of labels (label_text m) ≡ Some (Bundle m)
     at m (inl e) is = absurd (true≢false (sym is ∙ ap (λ k. is_among entries k || is_among targets k) e ∙ other))
     at m (inr before) is = h.named m before is

@@ -23,7 +23,8 @@ one_more_listed bundles n b old out new h is so (more, grown, listed) rest other
     let there = so (more ++ rest) (rw (item_and_rest bundles n b h is) whole) in
     rw (grown, append_assoc out more rest) there
 
-pub all_listed : (bundles : List Bundle) (n : ℕ) (old out : List ℕ) → length bundles ≤ n → IsListedTo bundles n old out → IsAppended old out (AreBundleListings 0 bundles)
+pub all_listed : (bundles : List Bundle) (n : ℕ) (old out : List ℕ) → length bundles ≤ n → IsListedTo bundles n old out
+    → IsAppended old out (AreBundleListings 0 bundles)
 all_listed bundles n old out h so =
     let rest : AreBundleListings n (drop n bundles) [] = rw (drop_all n bundles h) refl in
     let whole = so [] rest in

@@ -38,19 +38,23 @@ letters_tell : (us vs : List ExecutionUnit) → map unit_letter us ≡ map unit_
 letters_tell us vs e = sym (all_back us) ∙ ap (map lettered) e ∙ all_back vs
 
 -- What the test of a template says.
-shape_test : (units : List ExecutionUnit) (stops : List ℕ) (code : ℕ) → Decides (is_shaped units stops code) ((units_of code ≡ units) × (stops_of code ≡ stops))
+shape_test : (units : List ExecutionUnit) (stops : List ℕ) (code : ℕ)
+    → Decides (is_shaped units stops code) ((units_of code ≡ units) × (stops_of code ≡ stops))
 shape_test units stops code =
     let letters = bytes_eq-Decides (map unit_letter (units_of code)) (map unit_letter units) in
-    Decides-and _ _ (λ h. letters_tell (units_of code) units (letters.0 h), λ e. letters.1 (ap (map unit_letter) e)) (bytes_eq-Decides (stops_of code) stops)
+    Decides-and _ _ (λ h. letters_tell (units_of code) units (letters.0 h), λ e. letters.1 (ap (map unit_letter) e))
+    (bytes_eq-Decides (stops_of code) stops)
 
 -- What is found below a number.
 abbrev IsFoundBelow : (ℕ → Bool) → ℕ → Option ℕ → Type 0
 IsFoundBelow p n found = MatchOption found ((code : ℕ) → code < n → p code ≡ true → ⊥) (λ code. p code ≡ true)
 
-one_more : (p : ℕ → Bool) (n : ℕ) (found : Option ℕ) (b : Bool) → p n ≡ b → IsFoundBelow p n found → IsFoundBelow p (suc n) (cond b (Some n) found)
+one_more : (p : ℕ → Bool) (n : ℕ) (found : Option ℕ) (b : Bool) → p n ≡ b → IsFoundBelow p n found
+    → IsFoundBelow p (suc n) (cond b (Some n) found)
 one_more p n found true is h = is
 one_more p n (Some code) false is h = h
-one_more p n None false is h = λ code less passes. elim (last_or_below code n less) as (λ _. ⊥) [ inl e ↦ absurd cc | inr before ↦ h code before passes ]
+one_more p n None false is h =
+    λ code less passes. elim (last_or_below code n less) as (λ _. ⊥) [ inl e ↦ absurd cc | inr before ↦ h code before passes ]
 
 found_below : (p : ℕ → Bool) (n : ℕ) → IsFoundBelow p n (find p (below n))
 found_below p zero = λ code less passes. omega arith
@@ -82,10 +86,13 @@ one_template_of s a b c x y h k =
 abbrev IsTheTemplate : TemplateName → Bool → Bool → Bool → Option ℕ → Type 0
 IsTheTemplate s a b c found = MatchOption found ((code : ℕ) → IsTemplateOf s a b c code → ⊥) (IsTemplateOf s a b c)
 
-found_template : (s : TemplateName) (a b c : Bool) (found : Option ℕ) → IsFoundBelow (is_shaped (units_named s) (marked_slots a b c)) 32 found → IsTheTemplate s a b c found
-found_template s a b c (Some code) passes = let has = (shape_test (units_named s) (marked_slots a b c) code).0 passes in record { units = has.0; stops = has.1 }
+found_template : (s : TemplateName) (a b c : Bool) (found : Option ℕ)
+    → IsFoundBelow (is_shaped (units_named s) (marked_slots a b c)) 32 found → IsTheTemplate s a b c found
+found_template s a b c (Some code) passes =
+    let has = (shape_test (units_named s) (marked_slots a b c) code).0 passes in record { units = has.0; stops = has.1 }
 found_template s a b c None none =
-    λ code h. none code (code_small code (is_named s code h.units)) ((shape_test (units_named s) (marked_slots a b c) code).1 (h.units, h.stops))
+    λ code h. none code (code_small code (is_named s code h.units))
+    ((shape_test (units_named s) (marked_slots a b c) code).1 (h.units, h.stops))
 
 the_template : (s : TemplateName) (a b c : Bool) → IsTheTemplate s a b c (template_of s a b c)
 unfolding template_of
@@ -125,7 +132,8 @@ record IsNamed (o : Option Shape) : Type 0 where
 reserved : IsNamed None
 reserved = record { named = λ is. absurd cc }
 
-row : (s : TemplateName) (a b here : Bool) (other : Option Shape) → HasLongStops s a b → IsNamed other → IsNamed (if here then Some (record { units = units_named s; inner = marked_slots a b false }) else other)
+row : (s : TemplateName) (a b here : Bool) (other : Option Shape) → HasLongStops s a b → IsNamed other
+    → IsNamed (if here then Some (record { units = units_named s; inner = marked_slots a b false }) else other)
 row s a b true other long h = record { named = λ is. record { name = s; first = a; second = b; units = refl; inner = refl; long = long } }
 row s a b false other long h = h
 
@@ -150,7 +158,8 @@ marked_last true false last = refl
 marked_last false true last = refl
 marked_last false false last = refl
 
-marked_at : (a b c : Bool) → (is_among (marked_slots a b c) 0 ≡ a) × (is_among (marked_slots a b c) 1 ≡ b) × (is_among (marked_slots a b c) 2 ≡ c)
+marked_at : (a b c : Bool) → (is_among (marked_slots a b c) 0 ≡ a) × (is_among (marked_slots a b c) 1 ≡ b)
+    × (is_among (marked_slots a b c) 2 ≡ c)
 marked_at true true true = (refl, refl, refl)
 marked_at true true false = (refl, refl, refl)
 marked_at true false true = (refl, refl, refl)
@@ -169,7 +178,11 @@ record HasStops (a b c : Bool) (code : ℕ) : Type 0 where
 has_stops : (a b c : Bool) (code : ℕ) → stops_of code ≡ marked_slots a b c → HasStops a b c code
 has_stops a b c code e =
     let at = marked_at a b c in
-    record { first = ap (λ xs. is_among xs 0) e ∙ at.0; second = ap (λ xs. is_among xs 1) e ∙ at.1; third = ap (λ xs. is_among xs 2) e ∙ at.2 }
+    record {
+      first = ap (λ xs. is_among xs 0) e ∙ at.0;
+      second = ap (λ xs. is_among xs 1) e ∙ at.1;
+      third = ap (λ xs. is_among xs 2) e ∙ at.2;
+    }
 
 -- The code is that of the template with this name and its stops.
 pub record IsNamedBy (s : TemplateName) (code : ℕ) : Type 0 where
@@ -184,9 +197,16 @@ template_named : (code : ℕ) → IsTemplate code → HasName code
 template_named code is =
     let named = (each_named (code / 2)).named is in
     let last = code % 2 == 1 in
-    let stops : stops_of code ≡ marked_slots named.first named.second last = ap (λ inner. inner ++ (if last then 2 ∷ [] else [])) named.inner ∙ marked_last named.first named.second last in
-    let has = has_stops named.first named.second last code stops in
-    (named.name, record { units = named.units; stops = stops ∙ rw (has.first, has.second, has.third) refl; long = rw (has.first, has.second) named.long })
+    let stops : stops_of code ≡ marked_slots named.first named.second last =
+    ap (λ inner. inner ++ (if last then 2 ∷ [] else [])) named.inner ∙ marked_last named.first named.second last in
+    let has = has_stops named.first named.second last code stops in (
+      named.name,
+      record {
+        units = named.units;
+        stops = stops ∙ rw (has.first, has.second, has.third) refl;
+        long = rw (has.first, has.second) named.long;
+      },
+    )
 
 -- What fits the units of a code fits those of a template.
 some_fit : (o : Option Shape) (slots : Slots) → FitUnits (unwrap_or o no_shape).units slots → is_some o ≡ true
@@ -198,28 +218,39 @@ pub has_name : (code : ℕ) (slots : Slots) → FitUnits (units_of code) slots �
 has_name code slots fit = template_named code (some_fit (shape_of (code / 2)) slots fit)
 
 -- The template of a bundle is the one of its name and its stops.
-pub same_named : (s : TemplateName) (code : ℕ) → IsNamedBy s code → template_of s (has_stop code 0) (has_stop code 1) (has_stop code 2) ≡ Some code
+pub same_named : (s : TemplateName) (code : ℕ) → IsNamedBy s code
+    → template_of s (has_stop code 0) (has_stop code 1) (has_stop code 2) ≡ Some code
 same_named s code named = template_is s _ _ _ code (record { units = named.units; stops = named.stops })
 
 stop_test : (code slot : ℕ) (marked : Bool) → StopsAs code slot marked → has_stop code slot ≡ marked
 stop_test code slot marked h = sym (same_test marked (stops_of code) slot (h.both.1, h.both.0))
 
 stops_as : (code slot : ℕ) (marked : Bool) → has_stop code slot ≡ marked → StopsAs code slot marked
-stops_as code slot marked e = record { both = (λ is. sym e ∙ among_from (stops_of code) slot is, λ is. among_to (stops_of code) slot (e ∙ is)) }
+stops_as code slot marked e =
+    record { both = (λ is. sym e ∙ among_from (stops_of code) slot is, λ is. among_to (stops_of code) slot (e ∙ is)) }
 
 has_shape : (s : TemplateName) (a b c : Bool) (code : ℕ) → IsTemplateOf s a b c code → HasShape code (units_named s) (a ∷ b ∷ c ∷ [])
 has_shape s a b c code is =
     let has = has_stops a b c code is.stops in
-    record { same = is.units; first = stops_as code 0 a has.first; second = stops_as code 1 b has.second; third = stops_as code 2 c has.third }
+    record {
+      same = is.units;
+      first = stops_as code 0 a has.first;
+      second = stops_as code 1 b has.second;
+      third = stops_as code 2 c has.third;
+    }
 
 -- What has the shape of a name and marks is the template of the name and these stops.
-pub template_found : (s : TemplateName) (a b c : Bool) (found : Option ℕ) → MatchOption found ((code : ℕ) → IsTemplate code → HasShape code (units_named s) (a ∷ b ∷ c ∷ []) → ⊥) (λ code. HasShape code (units_named s) (a ∷ b ∷ c ∷ []))
+pub template_found : (s : TemplateName) (a b c : Bool) (found : Option ℕ)
+    → MatchOption found ((code : ℕ) → IsTemplate code → HasShape code (units_named s) (a ∷ b ∷ c ∷ []) → ⊥)
+    (λ code. HasShape code (units_named s) (a ∷ b ∷ c ∷ []))
     → found ≡ template_of s a b c
 template_found s a b c None h =
-    same_template s a b c None (template_of s a b c) (λ code is. h code (is_named s code is.units) (has_shape s a b c code is)) (the_template s a b c)
+    same_template s a b c None (template_of s a b c) (λ code is. h code (is_named s code is.units) (has_shape s a b c code is))
+    (the_template s a b c)
 template_found s a b c (Some code) h =
     let named = template_named code (is_named s code h.same) in
-    let stops : stops_of code ≡ marked_slots a b c = named.1.stops ∙ rw (stop_test code 0 a h.first, stop_test code 1 b h.second, stop_test code 2 c h.third) refl in
+    let stops : stops_of code ≡ marked_slots a b c =
+    named.1.stops ∙ rw (stop_test code 0 a h.first, stop_test code 1 b h.second, stop_test code 2 c h.third) refl in
     sym (template_is s a b c code (record { units = h.same; stops = stops }))
 
 -- A template whose second unit isn't L is short.

@@ -25,7 +25,8 @@ use Rattle.asm_build.proofs.LabelValues.{label_within}
 abbrev pub AreFoundReachable : Labels → Type 0
 AreFoundReachable labels = AllByRecursion IsReachable (values_of labels)
 
-or_same : (i : Insn) (u : ExecutionUnit) (slot : ℕ) (o : Option Op) → Fits i u slot → IfSome o (λ y. Fits (record { qp = i.qp; op = y }) u slot) → Fits (record { qp = i.qp; op = unwrap_or o i.op }) u slot
+or_same : (i : Insn) (u : ExecutionUnit) (slot : ℕ) (o : Option Op) → Fits i u slot
+    → IfSome o (λ y. Fits (record { qp = i.qp; op = y }) u slot) → Fits (record { qp = i.qp; op = unwrap_or o i.op }) u slot
 or_same i u slot None f h = f
 or_same i u slot (Some y) f h = h
 
@@ -38,10 +39,12 @@ plain : (P : Op → Type 0) (branches : Bool) (x : Op) → P x → IfSome (if br
 plain P true x p = tt
 plain P false x p = p
 
-fits_target : (labels : Labels) (n : ℕ) (i : Insn) (target : Option (List ℕ)) (u : ExecutionUnit) (slot : ℕ) → AreFoundReachable labels → n < reach
+fits_target : (labels : Labels) (n : ℕ) (i : Insn) (target : Option (List ℕ)) (u : ExecutionUnit) (slot : ℕ) → AreFoundReachable labels
+    → n < reach
     → Fits i u slot → IfSome (named labels n i.op target) (λ y. Fits (record { qp = i.qp; op = y }) u slot)
 fits_target labels n i None u slot within k f = plain _ (is_some (displacement i.op)) i.op f
-fits_target labels n i (Some name) u slot within k f = fits_addressed i (address_of labels name) n u slot (label_within IsReachable labels name within) k f
+fits_target labels n i (Some name) u slot within k f =
+    fits_addressed i (address_of labels name) n u slot (label_within IsReachable labels name within) k f
 
 fits_put_in : (labels : Labels) (n : ℕ) (i : Insn) (name : SlotName) (u : ExecutionUnit) (slot : ℕ) → AreFoundReachable labels → n < reach
     → Fits i u slot → Fits (put_in labels n i name) u slot
@@ -49,7 +52,8 @@ fits_put_in labels n i name u slot within k f =
     or_same i u slot (named labels n i.op name.target) f (fits_target labels n i name.target u slot within k f)
 
 -- The slots of a bundle fit its units as before.
-pub fit_named : (labels : Labels) (n : ℕ) (units : List ExecutionUnit) (slots : Slots) (b : BundleLines) → AreFoundReachable labels → n < reach
+pub fit_named : (labels : Labels) (n : ℕ) (units : List ExecutionUnit) (slots : Slots) (b : BundleLines) → AreFoundReachable labels
+    → n < reach
     → FitUnits units slots → FitUnits units (slots_named labels n slots b)
 fit_named labels n (u ∷ v ∷ w ∷ []) (Three i j k) b within few f = (
   fits_put_in labels n i b.first u 0 within few f.0,
@@ -73,7 +77,8 @@ not_true true h = sym h
 not_true false h = refl
 
 -- An instruction without a name that needs none.
-named_same : (labels : Labels) (n : ℕ) (x : Op) (target : Option (List ℕ)) → (not (is_some target) && not (is_some (displacement x))) ≡ true → named labels n x target ≡ Some x
+named_same : (labels : Labels) (n : ℕ) (x : Op) (target : Option (List ℕ)) → (not (is_some target) && not (is_some (displacement x))) ≡ true
+    → named labels n x target ≡ Some x
 named_same labels n x None h = let none : is_some (displacement x) ≡ false = not_true _ h in rw none refl
 named_same labels n x (Some name) h = cc
 
@@ -86,17 +91,29 @@ is_same labels n i name h = rw (named_same labels n i.op name.target h) refl
 slots_same : (labels : Labels) (n : ℕ) (slots : Slots) (b : BundleLines) → all_stay slots b ≡ true → slots_named labels n slots b ≡ slots
 slots_same labels n (Three i j k) b h =
     let more = right (stays i b.first) _ h in
-    rw (put_same labels n i b.first (left _ _ h), put_same labels n j b.second (left _ _ more), put_same labels n k b.third (right (stays j b.second) _ more)) refl
-slots_same labels n (Long i j) b h = rw (put_same labels n i b.first (left _ _ h), put_same labels n j b.second (right (stays i b.first) _ h)) refl
+    rw (
+      put_same labels n i b.first (left _ _ h),
+      put_same labels n j b.second (left _ _ more),
+      put_same labels n k b.third (right (stays j b.second) _ more),
+    ) refl
+slots_same labels n (Long i j) b h =
+    rw (put_same labels n i b.first (left _ _ h), put_same labels n j b.second (right (stays i b.first) _ h)) refl
 
-all_named : (labels : Labels) (n : ℕ) (slots : Slots) (b : BundleLines) → all_stay slots b ≡ true → unnamed_among labels n (slot_names slots b) ≡ None
+all_named : (labels : Labels) (n : ℕ) (slots : Slots) (b : BundleLines) → all_stay slots b ≡ true
+    → unnamed_among labels n (slot_names slots b) ≡ None
 all_named labels n (Three i j k) b h =
     let more = right (stays i b.first) _ h in
-    rw (is_same labels n i b.first (left _ _ h), is_same labels n j b.second (left _ _ more), is_same labels n k b.third (right (stays j b.second) _ more)) refl
-all_named labels n (Long i j) b h = rw (is_same labels n i b.first (left _ _ h), is_same labels n j b.second (right (stays i b.first) _ h)) refl
+    rw (
+      is_same labels n i b.first (left _ _ h),
+      is_same labels n j b.second (left _ _ more),
+      is_same labels n k b.third (right (stays j b.second) _ more),
+    ) refl
+all_named labels n (Long i j) b h =
+    rw (is_same labels n i b.first (left _ _ h), is_same labels n j b.second (right (stays i b.first) _ h)) refl
 
 -- A bundle whose instructions have no names and need none stays as it is.
-pub bundle_same : (labels : Labels) (n : ℕ) (b : BundleLines) → all_stay b.bundle.slots b ≡ true → (b.bundle ≡ bundle_named labels n b) × (unnamed_slot labels n b ≡ None)
+pub bundle_same : (labels : Labels) (n : ℕ) (b : BundleLines) → all_stay b.bundle.slots b ≡ true
+    → (b.bundle ≡ bundle_named labels n b) × (unnamed_slot labels n b ≡ None)
 bundle_same labels n b h =
     let with_slots : Slots → Bundle = λ slots. record { template = b.bundle.template; slots = slots } in
     (ap with_slots (sym (slots_same labels n b.bundle.slots b h)), all_named labels n b.bundle.slots b h)

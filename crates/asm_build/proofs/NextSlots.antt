@@ -10,7 +10,8 @@ use Rattle.slot_layouts.specs.Laws.{PlaceIsFit}
 use Rattle.asm_reading.specs.declared.line.Draft.{Draft}
 use Rattle.asm_build.specs.Drafts.{completed}
 
-pub by_class : (d : Draft) (u v : ExecutionUnit) (slot count : ℕ) (class : SlotClass) (b : Bool) → PlaceIsFit → d.bare ≡ false → slot < 3 → IsListed d.insn
+pub by_class : (d : Draft) (u v : ExecutionUnit) (slot count : ℕ) (class : SlotClass) (b : Bool) → PlaceIsFit → d.bare ≡ false → slot < 3
+    → IsListed d.insn
     → class ≡ class_of d.insn.op → v ≡ u → slot ≡ count → b ≡ has_place class v slot → IsTrue b ↔ Fits (completed d u) u count
 by_class d u v slot count class b law bare low listed of-class of-unit of-slot is =
     let l : count < 3 = omega (arith, low, of-slot) in

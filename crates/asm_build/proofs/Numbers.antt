@@ -15,7 +15,12 @@ most_numbers size (v ∷ vs) = rw (most_bytes size v, most_numbers size vs) refl
 pub length_numbers : (size : ℕ) (values : List ℕ) → size ≤ 8 → length (numbers_bytes size values) ≡ length values * size
 length_numbers size [] h = omega arith
 length_numbers size (v ∷ vs) h =
-    omega (arith, length-append (take size (to_le_bytes w64 v)) (numbers_bytes size vs), length-take-le size (to_le_bytes w64 v) h, length_numbers size vs h)
+    omega (
+      arith,
+      length-append (take size (to_le_bytes w64 v)) (numbers_bytes size vs),
+      length-take-le size (to_le_bytes w64 v) h,
+      length_numbers size vs h,
+    )
 
 -- A part of a list is no longer than it.
 pub shorter : (front rest before more : List ℕ) → front ++ rest ≡ before ++ more → length front ≤ length before + length more

@@ -38,7 +38,9 @@ pub label_says : (n : ℕ) → n < 2 ^ 32 → Says (label_text n ++ codes ":") (
 label_says n l = record {
   short = omega (arith, length-append (label_text n) (codes ":"), label_is_short n l);
   reads = record {
-    reading = read_plain (label_text n ++ codes ":") (both_plain (label_text n) (codes ":") (label_plain n l) refl) ∙ ap value_of (label_lexed n l) ∙ label_value n l;
+    reading =
+        read_plain (label_text n ++ codes ":") (both_plain (label_text n) (codes ":") (label_plain n l) refl)
+        ∙ ap value_of (label_lexed n l) ∙ label_value n l;
     listed = tt;
   };
 }
@@ -49,7 +51,8 @@ entry_lexed n l = name_lexed 46 (codes "entry") (32 ∷ label_text n) refl refl 
 name_alone : (n : ℕ) → n < 2 ^ 32 → lexed 0 (label_text n ++ []) ≡ (kind.Name, label_text n) ∷ []
 name_alone n l = name_lexed 76 (decimal n) [] refl refl (decimal_is_name_bytes n (omega (arith, l))) refl
 
-entry_value : (n : ℕ) → n < 2 ^ 32 → value_of ((kind.Name, codes ".entry") ∷ (kind.Name, label_text n) ∷ []) ≡ Ok (line.Entry (label_text n))
+entry_value : (n : ℕ) → n < 2 ^ 32 → value_of ((kind.Name, codes ".entry") ∷ (kind.Name, label_text n) ∷ [])
+    ≡ Ok (line.Entry (label_text n))
 entry_value n l =
     cond-false (is_colon (token_of kind.Name (label_text n))) _ _ (ap is_colon (label_reads n l))
     ∙ ap (λ x. read_form (form.Entry ∷ []) (x ∷ []) (x ∷ []) >>= λ f. directive_value f ((kind.Name, label_text n) ∷ [])) (label_reads n l)
@@ -61,7 +64,8 @@ entry_says n l = record {
   short = omega (arith, label_is_short n l);
   reads = record {
     reading = read_plain (codes ".entry " ++ label_text n) (label_plain n l)
-        ∙ ap value_of (entry_lexed n l ∙ ap (λ ws. (kind.Name, codes ".entry") ∷ ws) (ap (lexed 0) (sym (append-nil (label_text n))) ∙ name_alone n l)) ∙ entry_value n l;
+        ∙ ap value_of (entry_lexed n l ∙ ap (λ ws. (kind.Name, codes ".entry") ∷ ws)
+        (ap (lexed 0) (sym (append-nil (label_text n))) ∙ name_alone n l)) ∙ entry_value n l;
     listed = tt;
   };
 }

@@ -39,39 +39,51 @@ is_entry bundles entries n =
     alike (both (dec_lt n (length bundles)) (either (ℕ_discrete n 0) (either (contains entries n) (is_after_call bundles n))))
     (λ h. record { inside = h.0; kind = h.1 }) (λ h. (h.inside, h.kind))
 
-pub relations_decided : (IsEntry : ℕ → Type 0) (is : (n : ℕ) → Dec (IsEntry n)) (before : List Relation) (lines : List RelationLine) → AreDecided (relation_stages IsEntry before lines)
+pub relations_decided : (IsEntry : ℕ → Type 0) (is : (n : ℕ) → Dec (IsEntry n)) (before : List Relation) (lines : List RelationLine)
+    → AreDecided (relation_stages IsEntry before lines)
 relations_decided IsEntry is before [] = tt
-relations_decided IsEntry is before (l ∷ ls) =
-    (decided (is l.bundle), (decided (dec_le (length (related before l)) RELATION_LIMIT), relations_decided IsEntry is (related before l) ls))
+relations_decided IsEntry is before (l ∷ ls) = (
+  decided (is l.bundle),
+  (
+    decided (dec_le (length (related before l)) RELATION_LIMIT),
+    relations_decided IsEntry is (related before l) ls,
+  ),
+)
 
 -- No more than a program may have.
-pub few_related : (IsEntry : ℕ → Type 0) (before : List Relation) (lines : List RelationLine) → length before ≤ RELATION_LIMIT → ArePassed (relation_stages IsEntry before lines)
+pub few_related : (IsEntry : ℕ → Type 0) (before : List Relation) (lines : List RelationLine) → length before ≤ RELATION_LIMIT
+    → ArePassed (relation_stages IsEntry before lines)
     → length (all_related before lines) ≤ RELATION_LIMIT
 few_related IsEntry before [] few passed = few
 few_related IsEntry before (l ∷ ls) few passed = few_related IsEntry (related before l) ls passed.1.0 passed.1.1
 
 -- The lines after one that has no fault.
-pub line_passed : (IsEntry : ℕ → Type 0) (before : List Relation) (l : RelationLine) (ls : List RelationLine) → ArePassed (relation_stages IsEntry before (l ∷ []))
+pub line_passed : (IsEntry : ℕ → Type 0) (before : List Relation) (l : RelationLine) (ls : List RelationLine)
+    → ArePassed (relation_stages IsEntry before (l ∷ []))
     → ArePassed (relation_stages IsEntry (related before l) ls) → ArePassed (relation_stages IsEntry before (l ∷ ls))
 line_passed IsEntry before l ls one later = (one.0, (one.1.0, later))
 
-pub later_fault : (IsEntry : ℕ → Type 0) (before : List Relation) (l : RelationLine) (ls : List RelationLine) (e : TextError) → ArePassed (relation_stages IsEntry before (l ∷ []))
+pub later_fault : (IsEntry : ℕ → Type 0) (before : List Relation) (l : RelationLine) (ls : List RelationLine) (e : TextError)
+    → ArePassed (relation_stages IsEntry before (l ∷ []))
     → IsFirstFault (relation_stages IsEntry (related before l) ls) e → IsFirstFault (relation_stages IsEntry before (l ∷ ls)) e
 later_fault IsEntry before l ls e one fault = inr (one.0, inr (one.1.0, fault))
 
 -- The fault of the first of them.
-pub first_line_fault : (IsEntry : ℕ → Type 0) (before : List Relation) (l : RelationLine) (ls : List RelationLine) (e : TextError) → IsFirstFault (relation_stages IsEntry before (l ∷ [])) e
+pub first_line_fault : (IsEntry : ℕ → Type 0) (before : List Relation) (l : RelationLine) (ls : List RelationLine) (e : TextError)
+    → IsFirstFault (relation_stages IsEntry before (l ∷ [])) e
     → IsFirstFault (relation_stages IsEntry before (l ∷ ls)) e
 first_line_fault IsEntry before l ls e (inl other) = inl other
 first_line_fault IsEntry before l ls e (inr (entry, inl over)) = inr (entry, inl over)
 first_line_fault IsEntry before l ls e (inr (entry, inr (few, never))) = absurd never
 
 -- Each relation is of an entry.
-pub related_landed : (IsEntry : ℕ → Type 0) (before : List Relation) (lines : List RelationLine) → ArePassed (relation_stages IsEntry before lines)
+pub related_landed : (IsEntry : ℕ → Type 0) (before : List Relation) (lines : List RelationLine)
+    → ArePassed (relation_stages IsEntry before lines)
     → ((r : Relation) → Contains before r → IsEntry r.bundle) → (r : Relation) → Contains (all_related before lines) r → IsEntry r.bundle
 related_landed IsEntry before [] passed all r has = all r has
 related_landed IsEntry before (l ∷ ls) passed all r has =
-    related_landed IsEntry (related before l) ls passed.1.1 (λ s among. by s (from_with before (relations_among l.bundle l.predicates) s among)) r has
+    related_landed IsEntry (related before l) ls passed.1.1 (λ s among. by s
+    (from_with before (relations_among l.bundle l.predicates) s among)) r has
   where
     by : (s : Relation) → Contains before s ⊎ Contains (relations_among l.bundle l.predicates) s → IsEntry s.bundle
     by s (inl old) = all s old
@@ -80,10 +92,13 @@ related_landed IsEntry before (l ∷ ls) passed all r has =
         rw bundle passed.0
 
 -- Of lines whose first are taken, the fault of the next is the first of all.
-pub next_fault : (IsEntry : ℕ → Type 0) (all now : List Relation) (lines : List RelationLine) (i : ℕ) (l : RelationLine) (first : List RelationLine) (e : TextError) → i < length lines → l ≡ get_or lines i l
+pub next_fault : (IsEntry : ℕ → Type 0) (all now : List Relation) (lines : List RelationLine) (i : ℕ) (l : RelationLine)
+    (first : List RelationLine) (e : TextError) → i < length lines → l ≡ get_or lines i l
     → ((f : TextError) → IsFirstFault (relation_stages IsEntry now (drop i lines)) f → IsFirstFault (relation_stages IsEntry all first) f)
-    → (e ≡ error.Memory) ⊎ IsFirstFault (relation_stages IsEntry now (l ∷ [])) e → (e ≡ error.Memory) ⊎ IsFirstFault (relation_stages IsEntry all first) e
+    → (e ≡ error.Memory) ⊎ IsFirstFault (relation_stages IsEntry now (l ∷ [])) e
+    → (e ≡ error.Memory) ⊎ IsFirstFault (relation_stages IsEntry all first) e
 next_fault IsEntry all now lines i l first e less is of (inl memory) = inl memory
 next_fault IsEntry all now lines i l first e less is of (inr fault) =
     let front = item_and_rest lines i l less is in
-    inr (of e (subst (λ ls. IsFirstFault (relation_stages IsEntry now ls) e) (sym front) (first_line_fault IsEntry now l (drop (i + 1) lines) e fault)))
+    inr (of e (subst (λ ls. IsFirstFault (relation_stages IsEntry now ls) e) (sym front)
+    (first_line_fault IsEntry now l (drop (i + 1) lines) e fault)))

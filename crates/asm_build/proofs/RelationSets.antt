@@ -21,14 +21,18 @@ use Rattle.asm_build.proofs.Membership.{first_there, later_there, first_or_later
 use Rattle.asm_build.proofs.SortedSets.{Ways, IsOrderedBy, Chain, put_there, still_there, was_there, chain_grows}
 
 -- Relations are compared by their numbers.
-cmp_of : (r s : Relation) (a b c : Ordering) → a ≡ nat_cmp r.bundle s.bundle → b ≡ nat_cmp r.p s.p → c ≡ nat_cmp r.q s.q → relation_cmp r s ≡ ordering_then a (ordering_then b c)
+cmp_of : (r s : Relation) (a b c : Ordering) → a ≡ nat_cmp r.bundle s.bundle → b ≡ nat_cmp r.p s.p → c ≡ nat_cmp r.q s.q
+    → relation_cmp r s ≡ ordering_then a (ordering_then b c)
 cmp_of r s a b c x y z =
-    sym (ap (λ o. ordering_then o (ordering_then b c)) x ∙ ap (λ o. ordering_then (nat_cmp r.bundle s.bundle) (ordering_then o c)) y ∙ ap (λ o. ordering_then (nat_cmp r.bundle s.bundle) (ordering_then (nat_cmp r.p s.p) o)) z)
+    sym (ap (λ o. ordering_then o (ordering_then b c)) x ∙ ap (λ o. ordering_then (nat_cmp r.bundle s.bundle) (ordering_then o c)) y
+    ∙ ap (λ o. ordering_then (nat_cmp r.bundle s.bundle) (ordering_then (nat_cmp r.p s.p) o)) z)
 
-by_bundle : (r s : Relation) (o : Ordering) → o ≡ nat_cmp r.bundle s.bundle → relation_cmp r s ≡ ordering_then o (ordering_then (nat_cmp r.p s.p) (nat_cmp r.q s.q))
+by_bundle : (r s : Relation) (o : Ordering) → o ≡ nat_cmp r.bundle s.bundle
+    → relation_cmp r s ≡ ordering_then o (ordering_then (nat_cmp r.p s.p) (nat_cmp r.q s.q))
 by_bundle r s o h = cmp_of r s o (nat_cmp r.p s.p) (nat_cmp r.q s.q) h refl refl
 
-by_lower : (r s : Relation) (o : Ordering) → r.bundle ≡ s.bundle → o ≡ nat_cmp r.p s.p → relation_cmp r s ≡ ordering_then o (nat_cmp r.q s.q)
+by_lower : (r s : Relation) (o : Ordering) → r.bundle ≡ s.bundle → o ≡ nat_cmp r.p s.p
+    → relation_cmp r s ≡ ordering_then o (nat_cmp r.q s.q)
 by_lower r s o same h = cmp_of r s Equal o (nat_cmp r.q s.q) (nat_cmp_is r.bundle s.bundle Equal same) h refl
 
 by_higher : (r s : Relation) (o : Ordering) → r.bundle ≡ s.bundle → r.p ≡ s.p → o ≡ nat_cmp r.q s.q → relation_cmp r s ≡ o
@@ -63,8 +67,10 @@ with_both before [] ys = refl
 with_both before (x ∷ xs) ys = with_both (insert_key relation_cmp before x) xs ys
 
 -- Those between one more of these and the ones above it.
-pub next_related : (bundle : ℕ) (ps qs : List ℕ) (i p : ℕ) (now next : List Relation) → i < length ps → p ≡ slice_index ps i → next ≡ with_relations now (relations_above bundle p qs)
-    → with_relations next (flat_map (λ p. relations_above bundle p qs) (drop (i + 1) ps)) ≡ with_relations now (flat_map (λ p. relations_above bundle p qs) (drop i ps))
+pub next_related : (bundle : ℕ) (ps qs : List ℕ) (i p : ℕ) (now next : List Relation) → i < length ps → p ≡ slice_index ps i
+    → next ≡ with_relations now (relations_above bundle p qs)
+    → with_relations next (flat_map (λ p. relations_above bundle p qs) (drop (i + 1) ps))
+    ≡ with_relations now (flat_map (λ p. relations_above bundle p qs) (drop i ps))
 next_related bundle ps qs i p now next less is are =
     let front : drop i ps ≡ p ∷ drop (i + 1) ps = drop_more ps i 0 less ∙ ap (λ x. x ∷ drop (i + 1) ps) (sym is) in
     rw (front, are) (sym (with_both now (relations_above bundle p qs) (flat_map (λ p. relations_above bundle p qs) (drop (i + 1) ps))))
@@ -72,12 +78,14 @@ next_related bundle ps qs i p now next less is are =
 -- What relations with more of them contain.
 pub kept_with : (before rs : List Relation) (r : Relation) → Contains before r → Contains (with_relations before rs) r
 kept_with before [] r h = h
-kept_with before (s ∷ rs) r h = kept_with (insert_key relation_cmp before s) rs r (still_there relation_cmp IsRelationBefore relations_ordered s r before h)
+kept_with before (s ∷ rs) r h =
+    kept_with (insert_key relation_cmp before s) rs r (still_there relation_cmp IsRelationBefore relations_ordered s r before h)
 
 pub put_with : (before rs : List Relation) (r : Relation) → Contains rs r → Contains (with_relations before rs) r
 put_with before [] r h = absurd (none_there r h)
 put_with before (s ∷ rs) r h = elim (first_or_later s r rs h) [
-  | inl same ↦ kept_with (insert_key relation_cmp before s) rs r (subst (Contains (insert_key relation_cmp before s)) same (put_there relation_cmp IsRelationBefore relations_ordered s before))
+  | inl same ↦ kept_with (insert_key relation_cmp before s) rs r
+      (subst (Contains (insert_key relation_cmp before s)) same (put_there relation_cmp IsRelationBefore relations_ordered s before))
   | inr later ↦ put_with (insert_key relation_cmp before s) rs r later
 ]
 
@@ -115,7 +123,9 @@ above_is bundle p (q ∷ qs) r h = elim (cases_lt p q) [
 
 pub is_above : (bundle p : ℕ) (qs : List ℕ) (r : Relation) → IsPair bundle p qs r → Contains (relations_above bundle p qs) r
 is_above bundle p [] r h = absurd (none_there r.q h.higher)
-is_above bundle p (q ∷ qs) r h = by (first_or_later q r.q qs h.higher) (λ among. is_above bundle p qs r (record { bundle = h.bundle; lower = h.lower; higher = among; apart = h.apart }))
+is_above bundle p (q ∷ qs) r h =
+    by (first_or_later q r.q qs h.higher) (λ among. is_above bundle p qs r
+    (record { bundle = h.bundle; lower = h.lower; higher = among; apart = h.apart }))
   where
     later : Contains (relations_above bundle p qs) r → Contains (relations_above bundle p (q ∷ qs)) r
     later has = elim (cases_lt p q) [
@@ -123,11 +133,13 @@ is_above bundle p (q ∷ qs) r h = by (first_or_later q r.q qs h.higher) (λ amo
       | inr most ↦ rw (le-ltb p q most) has
     ]
 
-    by : (q ≡ r.q) ⊎ Contains qs r.q → (Contains qs r.q → Contains (relations_above bundle p qs) r) → Contains (relations_above bundle p (q ∷ qs)) r
+    by : (q ≡ r.q) ⊎ Contains qs r.q → (Contains qs r.q → Contains (relations_above bundle p qs) r)
+        → Contains (relations_above bundle p (q ∷ qs)) r
     by (inl same) further =
         let less : p < q = omega (arith, h.apart, h.lower, same) in
         let is : record { bundle = bundle; p = p; q = q } ≡ r = same_relation _ r (sym h.bundle) (sym h.lower) same in
-        rw (lt-ltb p q less) (subst (Contains (record { bundle = bundle; p = p; q = q } ∷ relations_above bundle p qs)) is (first_there (record { bundle = bundle; p = p; q = q }) (relations_above bundle p qs)))
+        rw (lt-ltb p q less) (subst (Contains (record { bundle = bundle; p = p; q = q } ∷ relations_above bundle p qs)) is
+        (first_there (record { bundle = bundle; p = p; q = q }) (relations_above bundle p qs)))
     by (inr among) further = later (further among)
 
 -- A relation of the bundle, between one of these and a higher one of those.
@@ -137,18 +149,26 @@ pub record IsBetween (n : ℕ) (ps qs : List ℕ) (r : Relation) : Type 0 where
   pub higher : Contains qs r.q
   pub apart : r.p < r.q
 
-pub between_is : (bundle : ℕ) (ps qs : List ℕ) (r : Relation) → Contains (flat_map (λ p. relations_above bundle p qs) ps) r → IsBetween bundle ps qs r
+pub between_is : (bundle : ℕ) (ps qs : List ℕ) (r : Relation) → Contains (flat_map (λ p. relations_above bundle p qs) ps) r
+    → IsBetween bundle ps qs r
 between_is bundle [] qs r h = absurd (none_there r h)
-between_is bundle (p ∷ ps) qs r h = elim (Contains-append_cases (relations_above bundle p qs) (flat_map (λ p. relations_above bundle p qs) ps) r h) [
-  | inl one ↦
-      let is = above_is bundle p qs r one in
-      record { bundle = is.bundle; lower = subst (Contains (p ∷ ps)) (sym is.lower) (first_there p ps); higher = is.higher; apart = is.apart }
-  | inr more ↦
-      let is = between_is bundle ps qs r more in
-      record { bundle = is.bundle; lower = later_there p r.p ps is.lower; higher = is.higher; apart = is.apart }
-]
+between_is bundle (p ∷ ps) qs r h =
+    elim (Contains-append_cases (relations_above bundle p qs) (flat_map (λ p. relations_above bundle p qs) ps) r h) [
+      | inl one ↦
+          let is = above_is bundle p qs r one in
+          record {
+            bundle = is.bundle;
+            lower = subst (Contains (p ∷ ps)) (sym is.lower) (first_there p ps);
+            higher = is.higher;
+            apart = is.apart;
+          }
+      | inr more ↦
+          let is = between_is bundle ps qs r more in
+          record { bundle = is.bundle; lower = later_there p r.p ps is.lower; higher = is.higher; apart = is.apart }
+    ]
 
-pub is_between : (bundle : ℕ) (ps qs : List ℕ) (r : Relation) → IsBetween bundle ps qs r → Contains (flat_map (λ p. relations_above bundle p qs) ps) r
+pub is_between : (bundle : ℕ) (ps qs : List ℕ) (r : Relation) → IsBetween bundle ps qs r
+    → Contains (flat_map (λ p. relations_above bundle p qs) ps) r
 is_between bundle [] qs r h = absurd (none_there r.p h.lower)
 is_between bundle (p ∷ ps) qs r h = elim (first_or_later p r.p ps h.lower) [
   | inl same ↦
@@ -164,11 +184,15 @@ fit_above : (IsEntry : ℕ → Type 0) (bundle p : ℕ) (qs : List ℕ) → IsEn
     → AllByRecursion (IsFit IsEntry) (relations_above bundle p qs)
 fit_above IsEntry bundle p [] entry is all = tt
 fit_above IsEntry bundle p (q ∷ qs) entry is all = elim (cases_lt p q) [
-  | inl less ↦ rw (lt-ltb p q less) (record { entry = entry; some = is.0; apart = less; static = all.0.1 }, fit_above IsEntry bundle p qs entry is all.1)
+  | inl less ↦ rw (lt-ltb p q less) (
+    record { entry = entry; some = is.0; apart = less; static = all.0.1 },
+    fit_above IsEntry bundle p qs entry is all.1,
+  )
   | inr most ↦ rw (le-ltb p q most) (fit_above IsEntry bundle p qs entry is all.1)
 ]
 
-fit_between : (IsEntry : ℕ → Type 0) (bundle : ℕ) (ps qs : List ℕ) → IsEntry bundle → AllByRecursion IsRelated ps → AllByRecursion IsRelated qs
+fit_between : (IsEntry : ℕ → Type 0) (bundle : ℕ) (ps qs : List ℕ) → IsEntry bundle → AllByRecursion IsRelated ps
+    → AllByRecursion IsRelated qs
     → AllByRecursion (IsFit IsEntry) (flat_map (λ p. relations_above bundle p qs) ps)
 fit_between IsEntry bundle [] qs entry one all = tt
 fit_between IsEntry bundle (p ∷ ps) qs entry one all =
@@ -186,7 +210,8 @@ above_none IsEntry r h = elim (cases_order 0 r.bundle) [
   | inr (inr less) ↦ absurd (omega (arith, less))
 ]
 
-fit_with : (IsEntry : ℕ → Type 0) (before rs : List Relation) → AllByRecursion (IsFit IsEntry) rs → AreFitFrom IsEntry no_relation before → AreFitFrom IsEntry no_relation (with_relations before rs)
+fit_with : (IsEntry : ℕ → Type 0) (before rs : List Relation) → AllByRecursion (IsFit IsEntry) rs → AreFitFrom IsEntry no_relation before
+    → AreFitFrom IsEntry no_relation (with_relations before rs)
 fit_with IsEntry before [] all h = h
 fit_with IsEntry before (r ∷ rs) all h =
     fit_with IsEntry (insert_key relation_cmp before r) rs all.1
@@ -201,7 +226,8 @@ before_from low rs (suc n) = relation_at rs n
 abbrev IsFitAt : (ℕ → Type 0) → Relation → List Relation → ℕ → Type 0
 IsFitAt IsEntry low rs n = IsRelationBefore (before_from low rs n) (relation_at rs n) × IsFit IsEntry (relation_at rs n)
 
-fit_from : (IsEntry : ℕ → Type 0) (low : Relation) (rs : List Relation) → ((n : ℕ) → n < length rs → IsFitAt IsEntry low rs n) → AreFitFrom IsEntry low rs
+fit_from : (IsEntry : ℕ → Type 0) (low : Relation) (rs : List Relation) → ((n : ℕ) → n < length rs → IsFitAt IsEntry low rs n)
+    → AreFitFrom IsEntry low rs
 unfolding before_from
 fit_from IsEntry low [] h = tt
 fit_from IsEntry low (r ∷ rs) h =
@@ -212,7 +238,8 @@ fit_from IsEntry low (r ∷ rs) h =
     after zero h = h
     after (suc n) h = h
 
-chain_at : (Good : Relation → Type 0) (low : Relation) (rs : List Relation) → Chain IsRelationBefore Good low rs → (n : ℕ) → n < length rs → IsRelationBefore (before_from low rs n) (relation_at rs n) × Good (relation_at rs n)
+chain_at : (Good : Relation → Type 0) (low : Relation) (rs : List Relation) → Chain IsRelationBefore Good low rs → (n : ℕ) → n < length rs
+    → IsRelationBefore (before_from low rs n) (relation_at rs n) × Good (relation_at rs n)
 unfolding before_from
 chain_at Good low [] h n less = absurd (omega (arith, less))
 chain_at Good low (r ∷ rs) h zero less = (h.0, h.1)
@@ -220,7 +247,8 @@ chain_at Good low (r ∷ rs) h (suc zero) less = chain_at Good r rs h.2 0 (omega
 chain_at Good low (r ∷ rs) h (suc (suc n)) less = chain_at Good r rs h.2 (suc n) (omega (arith, less))
 
 -- Each comes after the one before it.
-pub chain_rises : (Good : Relation → Type 0) (rs : List Relation) → Chain IsRelationBefore Good no_relation rs → (n : ℕ) → n < length rs → IsRelationBefore (relation_before rs n) (relation_at rs n)
+pub chain_rises : (Good : Relation → Type 0) (rs : List Relation) → Chain IsRelationBefore Good no_relation rs → (n : ℕ) → n < length rs
+    → IsRelationBefore (relation_before rs n) (relation_at rs n)
 unfolding before_from
 chain_rises Good rs h zero less = (chain_at Good no_relation rs h 0 less).0
 chain_rises Good rs h (suc n) less = (chain_at Good no_relation rs h (suc n) less).0
@@ -229,7 +257,8 @@ pub fit_of_all : (IsEntry : ℕ → Type 0) (rs : List Relation) → AreRelation
 unfolding before_from
 fit_of_all IsEntry rs h = fit_from IsEntry no_relation rs (λ n less. at n (h n less))
   where
-    at : (n : ℕ) → IsRelationBefore (relation_before rs n) (relation_at rs n) × IsFit IsEntry (relation_at rs n) → IsFitAt IsEntry no_relation rs n
+    at : (n : ℕ) → IsRelationBefore (relation_before rs n) (relation_at rs n) × IsFit IsEntry (relation_at rs n)
+        → IsFitAt IsEntry no_relation rs n
     at zero is = is
     at (suc n) is = is
 
@@ -237,30 +266,38 @@ pub all_of_fit : (IsEntry : ℕ → Type 0) (rs : List Relation) → AreFitFrom 
 all_of_fit IsEntry rs h n less = (chain_rises (IsFit IsEntry) rs h n less, (chain_at (IsFit IsEntry) no_relation rs h n less).1)
 
 -- Those of a program.
-pub all_of_relations : (bundles : List Bundle) (entries : List ℕ) (rs : List Relation) → AreRelations bundles entries rs → AreRelationsOf (IsEntryOf bundles entries) rs
+pub all_of_relations : (bundles : List Bundle) (entries : List ℕ) (rs : List Relation) → AreRelations bundles entries rs
+    → AreRelationsOf (IsEntryOf bundles entries) rs
 all_of_relations bundles entries rs h n less =
     let is = h n less in
     (is.rises, record { entry = is.entry; some = is.some; apart = is.apart; static = is.static })
 
-pub relations_of_all : (bundles : List Bundle) (entries : List ℕ) (rs : List Relation) → AreRelationsOf (IsEntryOf bundles entries) rs → AreRelations bundles entries rs
+pub relations_of_all : (bundles : List Bundle) (entries : List ℕ) (rs : List Relation) → AreRelationsOf (IsEntryOf bundles entries) rs
+    → AreRelations bundles entries rs
 relations_of_all bundles entries rs h n less =
     let is = h n less in
     record { rises = is.0; entry = is.1.entry; some = is.1.some; apart = is.1.apart; static = is.1.static }
 
-pub fit_of_relations : (bundles : List Bundle) (entries : List ℕ) (rs : List Relation) → AreRelations bundles entries rs → AreFitFrom (IsEntryOf bundles entries) no_relation rs
+pub fit_of_relations : (bundles : List Bundle) (entries : List ℕ) (rs : List Relation) → AreRelations bundles entries rs
+    → AreFitFrom (IsEntryOf bundles entries) no_relation rs
 fit_of_relations bundles entries rs h = fit_of_all (IsEntryOf bundles entries) rs (all_of_relations bundles entries rs h)
 
 -- Relations of entries stay so with those of an entry between each two of predicates that a line may have.
-pub related_stay : (IsEntry : ℕ → Type 0) (before after : List Relation) (bundle : ℕ) (ps : List ℕ) → IsEntry bundle → All IsRelated ps → after ≡ with_relations before (relations_among bundle ps)
+pub related_stay : (IsEntry : ℕ → Type 0) (before after : List Relation) (bundle : ℕ) (ps : List ℕ) → IsEntry bundle → All IsRelated ps
+    → after ≡ with_relations before (relations_among bundle ps)
     → AreRelationsOf IsEntry before → AreRelationsOf IsEntry after
 related_stay IsEntry before after bundle ps entry all is h =
     let each = recursion_from_All IsRelated ps all in
     let fit = fit_between IsEntry bundle ps ps entry each each in
-    let good = all_of_fit IsEntry (with_relations before (relations_among bundle ps)) (fit_with IsEntry before (relations_among bundle ps) fit (fit_of_all IsEntry before h)) in
+    let good =
+    all_of_fit IsEntry (with_relations before (relations_among bundle ps))
+    (fit_with IsEntry before (relations_among bundle ps) fit (fit_of_all IsEntry before h)) in
     subst (AreRelationsOf IsEntry) (sym is) good
 
 -- Relations of entries stay so with those that a line of an entry declares.
-pub line_stays : (IsEntry : ℕ → Type 0) (before after : List Relation) (l : RelationLine) (r : Result (Unit {0}) TextError) → IsEntry l.bundle → All IsRelated l.predicates
-    → OnOk r ((length (related before l) ≤ RELATION_LIMIT) × (after ≡ related before l)) → OnOk r (AreRelationsOf IsEntry before → AreRelationsOf IsEntry after)
+pub line_stays : (IsEntry : ℕ → Type 0) (before after : List Relation) (l : RelationLine) (r : Result (Unit {0}) TextError)
+    → IsEntry l.bundle → All IsRelated l.predicates
+    → OnOk r ((length (related before l) ≤ RELATION_LIMIT) × (after ≡ related before l))
+    → OnOk r (AreRelationsOf IsEntry before → AreRelationsOf IsEntry after)
 line_stays IsEntry before after l (Ok u) entry all h = related_stay IsEntry before after l.bundle l.predicates entry all h.1
 line_stays IsEntry before after l (Err e) entry all h = tt

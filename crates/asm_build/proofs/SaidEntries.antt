@@ -97,7 +97,8 @@ same_bundle : (m n : ℕ) (o : Option Address) → o ≡ Some (address.Bundle m)
 same_bundle m n o h k = cc
 
 -- The entries of a line and of those after it.
-one_more : (labels : Labels) (name : List ℕ) (names : List (List ℕ)) (m : ℕ) (entries out : List ℕ) → address_of labels name ≡ Some (address.Bundle m)
+one_more : (labels : Labels) (name : List ℕ) (names : List (List ℕ)) (m : ℕ) (entries out : List ℕ)
+    → address_of labels name ≡ Some (address.Bundle m)
     → Adds labels names (declared entries m) out → Adds labels (name ∷ names) entries out
 one_more labels name names m entries out found later = record {
   kept = λ n is. later.kept n (one_kept m n entries is);
@@ -105,7 +106,8 @@ one_more labels name names m entries out found later = record {
   only = λ n is. at n (later.only n is);
 }
   where
-    by : (n : ℕ) → 1 ≤ n → (other : List ℕ) → address_of labels other ≡ Some (address.Bundle n) → (name ≡ other) ⊎ Contains names other → Contains out n
+    by : (n : ℕ) → 1 ≤ n → (other : List ℕ) → address_of labels other ≡ Some (address.Bundle n) → (name ≡ other) ⊎ Contains names other
+        → Contains out n
     by n some other is (inl same) =
         let bundle : n ≡ m = same_bundle n m (address_of labels other) is (sym (ap (address_of labels) same) ∙ found) in
         later.kept n (subst (λ k. Contains (declared entries k) n) bundle (one_put n entries some))
@@ -125,11 +127,13 @@ record Declares (o : Option Address) (line : ℕ) (entries : List ℕ) (next : L
   pub found : o ≡ Some (address.Bundle bundle)
   pub rest : next (declared entries bundle) ≡ Ok out
 
-limit_passed : (line : ℕ) (b : Bool) (m : ℕ) (entries : List ℕ) (next : List ℕ → Result (List ℕ) TextError) (out : List ℕ) → and_then (if b then Err (error.Fault line Limit) else Ok (declared entries m)) next ≡ Ok out → next (declared entries m) ≡ Ok out
+limit_passed : (line : ℕ) (b : Bool) (m : ℕ) (entries : List ℕ) (next : List ℕ → Result (List ℕ) TextError) (out : List ℕ)
+    → and_then (if b then Err (error.Fault line Limit) else Ok (declared entries m)) next ≡ Ok out → next (declared entries m) ≡ Ok out
 limit_passed line true m entries next out is = cc
 limit_passed line false m entries next out is = is
 
-declares : (o : Option Address) (line : ℕ) (entries : List ℕ) (next : List ℕ → Result (List ℕ) TextError) (out : List ℕ) → and_then (declared_by (bundle_at o) line entries) next ≡ Ok out → Declares o line entries next out
+declares : (o : Option Address) (line : ℕ) (entries : List ℕ) (next : List ℕ → Result (List ℕ) TextError) (out : List ℕ)
+    → and_then (declared_by (bundle_at o) line entries) next ≡ Ok out → Declares o line entries next out
 declares None line entries next out is = cc
 declares (Some (address.Byte at)) line entries next out is = cc
 declares (Some (address.Bundle m)) line entries next out is =
@@ -138,19 +142,22 @@ declares (Some (address.Bundle m)) line entries next out is =
 same_entries : (entries out : List ℕ) (r : Result (List ℕ) TextError) → r ≡ Ok entries → r ≡ Ok out → entries ≡ out
 same_entries entries out r h k = cc
 
-all_add : (labels : Labels) (entries out : List ℕ) (lines : List EntryLine) → all_declared labels entries lines ≡ Ok out → Adds labels (names_of lines) entries out
+all_add : (labels : Labels) (entries out : List ℕ) (lines : List EntryLine) → all_declared labels entries lines ≡ Ok out
+    → Adds labels (names_of lines) entries out
 all_add labels entries out [] is = subst (Adds labels [] entries) (same_entries entries out (Ok entries) refl is) (none_more labels entries)
 all_add labels entries out (l ∷ ls) is =
     let here = declares (address_of labels l.name) l.line entries (λ more. all_declared labels more ls) out is in
     one_more labels l.name (names_of ls) here.bundle entries out here.found (all_add labels (declared entries here.bundle) out ls here.rest)
 
 -- A bundle is a declared entry exactly where a line names it.
-pub entry_named : (labels : Labels) (out : List ℕ) (lines : List EntryLine) (n : ℕ) → all_declared labels [] lines ≡ Ok out → Contains out n → IsDeclaredBy labels (names_of lines) n
+pub entry_named : (labels : Labels) (out : List ℕ) (lines : List EntryLine) (n : ℕ) → all_declared labels [] lines ≡ Ok out → Contains out n
+    → IsDeclaredBy labels (names_of lines) n
 entry_named labels out lines n is h = by ((all_add labels [] out lines is).only n h)
   where
     by : Contains [] n ⊎ IsDeclaredBy labels (names_of lines) n → IsDeclaredBy labels (names_of lines) n
     by (inl none) = absurd (none_there n none)
     by (inr named) = named
 
-pub named_entry : (labels : Labels) (out : List ℕ) (lines : List EntryLine) (n : ℕ) → all_declared labels [] lines ≡ Ok out → IsDeclaredBy labels (names_of lines) n → Contains out n
+pub named_entry : (labels : Labels) (out : List ℕ) (lines : List EntryLine) (n : ℕ) → all_declared labels [] lines ≡ Ok out
+    → IsDeclaredBy labels (names_of lines) n → Contains out n
 named_entry labels out lines n is h = (all_add labels [] out lines is).named n h

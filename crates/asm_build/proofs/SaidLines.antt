@@ -28,7 +28,8 @@ same_parts s t r a b = cc
 no_fault : (t : TextParts) (e : TextError) (r : Result TextParts TextError) → r ≡ Ok t → r ≡ Err e → ⊥
 no_fault t e r a b = cc
 
-pub taken_as : (s : TextParts) (n : ℕ) (lines : List (List ℕ)) (t : TextParts) (r : Result TextParts TextError) → r ≡ Ok t → ComesTo s n lines r → TakenAs s n lines t
+pub taken_as : (s : TextParts) (n : ℕ) (lines : List (List ℕ)) (t : TextParts) (r : Result TextParts TextError) → r ≡ Ok t
+    → ComesTo s n lines r → TakenAs s n lines t
 taken_as s n [] t r is h = record { values = []; said = tt; follow = same_parts s t r is h }
 taken_as s n (bytes ∷ lines) t r is (inl (reason, refused, err)) = absurd (no_fault t _ r is err)
 taken_as s n (bytes ∷ lines) t r is (inr (value, taken, rest)) =
@@ -54,7 +55,8 @@ one_data s n v = sym (append-nil s.bytes)
 pub all_data : (s : TextParts) (n : ℕ) (values : List Line) (t : TextParts) → Follow s n values t → t.bytes ≡ s.bytes ++ data_in values
 all_data s n [] t h = ap (λ (u : TextParts). u.bytes) h ∙ sym (append-nil s.bytes)
 all_data s n (v ∷ vs) t h =
-    all_data (after s n v) (n + 1) vs t h.1 ∙ ap (λ bytes. bytes ++ data_in vs) (one_data s n v) ∙ append_assoc s.bytes (line_data v) (data_in vs)
+    all_data (after s n v) (n + 1) vs t h.1 ∙ ap (λ bytes. bytes ++ data_in vs) (one_data s n v)
+    ∙ append_assoc s.bytes (line_data v) (data_in vs)
 
 abbrev pub names_of : List EntryLine → List (List ℕ)
 names_of lines = map (λ e. e.name) lines
@@ -66,7 +68,9 @@ one_entry s n line.Close = ap names_of (closed_entries s (closed_of s.current)) 
 one_entry s n v = sym (append-nil (names_of s.entries))
 
 -- The names of the entries are those before the lines, and then those of the lines.
-pub all_entries : (s : TextParts) (n : ℕ) (values : List Line) (t : TextParts) → Follow s n values t → names_of t.entries ≡ names_of s.entries ++ entries_in values
+pub all_entries : (s : TextParts) (n : ℕ) (values : List Line) (t : TextParts) → Follow s n values t
+    → names_of t.entries ≡ names_of s.entries ++ entries_in values
 all_entries s n [] t h = ap (λ (u : TextParts). names_of u.entries) h ∙ sym (append-nil (names_of s.entries))
 all_entries s n (v ∷ vs) t h =
-    all_entries (after s n v) (n + 1) vs t h.1 ∙ ap (λ names. names ++ entries_in vs) (one_entry s n v) ∙ append_assoc (names_of s.entries) (line_entry v) (entries_in vs)
+    all_entries (after s n v) (n + 1) vs t h.1 ∙ ap (λ names. names ++ entries_in vs) (one_entry s n v)
+    ∙ append_assoc (names_of s.entries) (line_entry v) (entries_in vs)

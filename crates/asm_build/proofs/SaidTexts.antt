@@ -40,7 +40,8 @@ plain : (branches : Bool) (x : Op) → unwrap_or (if branches then None else Som
 plain true x = refl
 plain false x = refl
 
-op_addressed : (lines : List Line) (n : ℕ) (x : Op) (name : List ℕ) (o : Option Address) → ((a : Address) → o ≡ Some a → IsLabel lines name a) → is_some (addressed_by o x n) ≡ true
+op_addressed : (lines : List Line) (n : ℕ) (x : Op) (name : List ℕ) (o : Option Address)
+    → ((a : Address) → o ≡ Some a → IsLabel lines name a) → is_some (addressed_by o x n) ≡ true
     → (a : Address) × IsLabel lines name a × (addressed x a n ≡ Some (unwrap_or (addressed_by o x n) x))
 op_addressed lines n x name None said is = absurd cc
 op_addressed lines n x name (Some a) said is = (a, said a refl, by (addressed x a n) is)
@@ -49,19 +50,24 @@ op_addressed lines n x name (Some a) said is = (a, said a refl, by (addressed x 
     by None is = absurd cc
     by (Some y) is = refl
 
-op_said : (lines : List Line) (labels : Labels) (n : ℕ) (x : Op) (target : Option (List ℕ)) → AreSaidLabels lines labels → is_some (named labels n x target) ≡ true → IsOpSaid lines n x target (unwrap_or (named labels n x target) x)
+op_said : (lines : List Line) (labels : Labels) (n : ℕ) (x : Op) (target : Option (List ℕ)) → AreSaidLabels lines labels
+    → is_some (named labels n x target) ≡ true → IsOpSaid lines n x target (unwrap_or (named labels n x target) x)
 op_said lines labels n x None said is = plain (is_some (displacement x)) x
 op_said lines labels n x (Some name) said is = op_addressed lines n x name (address_of labels name) (said name) is
 
-insn_said : (lines : List Line) (labels : Labels) (n : ℕ) (slot : SlotSaid) (name : SlotName) → AreSaidLabels lines labels → name.target ≡ slot.target → is_named labels n (slot.insn, name) ≡ true
+insn_said : (lines : List Line) (labels : Labels) (n : ℕ) (slot : SlotSaid) (name : SlotName) → AreSaidLabels lines labels
+    → name.target ≡ slot.target → is_named labels n (slot.insn, name) ≡ true
     → IsInsnSaid lines n slot (put_in labels n slot.insn name)
 insn_said lines labels n slot name said same is = record {
   qp = refl;
-  op = subst (λ target. IsOpSaid lines n slot.insn.op target (unwrap_or (named labels n slot.insn.op name.target) slot.insn.op)) same (op_said lines labels n slot.insn.op name.target said is);
+  op =
+      subst (λ target. IsOpSaid lines n slot.insn.op target (unwrap_or (named labels n slot.insn.op name.target) slot.insn.op)) same
+      (op_said lines labels n slot.insn.op name.target said is);
 }
 
 -- Where no slot of a list is unnamed, each has its name.
-none_found : (labels : Labels) (n : ℕ) (s : Insn × SlotName) (rest : List (Insn × SlotName)) → unnamed_among labels n (s ∷ rest) ≡ None → (is_named labels n s ≡ true) × (unnamed_among labels n rest ≡ None)
+none_found : (labels : Labels) (n : ℕ) (s : Insn × SlotName) (rest : List (Insn × SlotName)) → unnamed_among labels n (s ∷ rest) ≡ None
+    → (is_named labels n s ≡ true) × (unnamed_among labels n rest ≡ None)
 none_found labels n s rest none = by (is_named labels n s) refl
   where
     by : (b : Bool) → is_named labels n s ≡ b → (is_named labels n s ≡ true) × (unnamed_among labels n rest ≡ None)
@@ -72,9 +78,12 @@ none_found labels n s rest none = by (is_named labels n s) refl
         no_option m h = cc
 
 -- A bundle with the addresses of its names.
-slots_of : (labels : Labels) (n : ℕ) (l : BundleLines) → unnamed_slot labels n l ≡ None → (slots : List SlotSaid) (name : TemplateName) (lines : List Line) → AreSaidLabels lines labels → IsDrafted slots name l → IsBundleSaid lines n slots name (bundle_named labels n l)
+slots_of : (labels : Labels) (n : ℕ) (l : BundleLines) → unnamed_slot labels n l ≡ None
+    → (slots : List SlotSaid) (name : TemplateName) (lines : List Line) → AreSaidLabels lines labels → IsDrafted slots name l
+    → IsBundleSaid lines n slots name (bundle_named labels n l)
 slots_of labels n l none (x ∷ y ∷ []) template_name.Mlx lines said (template, contents, first, second) =
-    let all : unnamed_among labels n ((x.insn, l.first) ∷ (y.insn, l.second) ∷ []) ≡ None = ap (λ s. unnamed_among labels n (slot_names s l)) (sym contents) ∙ none in
+    let all : unnamed_among labels n ((x.insn, l.first) ∷ (y.insn, l.second) ∷ []) ≡ None =
+    ap (λ s. unnamed_among labels n (slot_names s l)) (sym contents) ∙ none in
     let a = none_found labels n (x.insn, l.first) ((y.insn, l.second) ∷ []) all in
     let b = none_found labels n (y.insn, l.second) [] a.1 in (
       template,
@@ -85,7 +94,8 @@ slots_of labels n l none (x ∷ y ∷ []) template_name.Mlx lines said (template
       insn_said lines labels n y l.second said second b.0,
     )
 slots_of labels n l none (x ∷ y ∷ z ∷ []) name lines said (template, contents, first, second, third) =
-    let all : unnamed_among labels n ((x.insn, l.first) ∷ (y.insn, l.second) ∷ (z.insn, l.third) ∷ []) ≡ None = ap (λ s. unnamed_among labels n (slot_names s l)) (sym contents) ∙ none in
+    let all : unnamed_among labels n ((x.insn, l.first) ∷ (y.insn, l.second) ∷ (z.insn, l.third) ∷ []) ≡ None =
+    ap (λ s. unnamed_among labels n (slot_names s l)) (sym contents) ∙ none in
     let a = none_found labels n (x.insn, l.first) ((y.insn, l.second) ∷ (z.insn, l.third) ∷ []) all in
     let b = none_found labels n (y.insn, l.second) ((z.insn, l.third) ∷ []) a.1 in
     let c = none_found labels n (z.insn, l.third) [] b.1 in (
@@ -100,7 +110,8 @@ slots_of labels n l none (x ∷ y ∷ z ∷ []) name lines said (template, conte
     )
 slots_of labels n l none slots name lines said drafted = absurd drafted
 
-bundles_said : (lines : List Line) (labels : Labels) (n : ℕ) (saids : List (List SlotSaid × TemplateName)) (ls : List BundleLines) → AreSaidLabels lines labels → AreDrafted saids ls → unnamed_bundle labels n ls ≡ None
+bundles_said : (lines : List Line) (labels : Labels) (n : ℕ) (saids : List (List SlotSaid × TemplateName)) (ls : List BundleLines)
+    → AreSaidLabels lines labels → AreDrafted saids ls → unnamed_bundle labels n ls ≡ None
     → AreBundlesSaid lines n saids (bundles_named labels n ls)
 bundles_said lines labels n [] [] said drafted none = tt
 bundles_said lines labels n [] (l ∷ ls) said drafted none = absurd drafted
@@ -117,7 +128,8 @@ record NoNameFault (s : TextParts) : Type 0 where
 no_name_fault : (s : TextParts) → name_fault s ≡ None → NoNameFault s
 no_name_fault s none = by (unnamed_bundle s.labels 0 s.bundles) (all_declared s.labels [] s.entries) refl refl none
   where
-    by : (o : Option ℕ) (r : Result (List ℕ) TextError) → unnamed_bundle s.labels 0 s.bundles ≡ o → all_declared s.labels [] s.entries ≡ r → earlier o r ≡ None → NoNameFault s
+    by : (o : Option ℕ) (r : Result (List ℕ) TextError) → unnamed_bundle s.labels 0 s.bundles ≡ o → all_declared s.labels [] s.entries ≡ r
+        → earlier o r ≡ None → NoNameFault s
     by None (Ok entries) e f h = record { bundles = e; entries = f ∙ ap (λ r. Ok (or_none r)) (sym f) }
     by None (Err why) e f h = absurd cc
     by (Some line) (Ok entries) e f h = absurd cc
@@ -133,16 +145,19 @@ is_inside count a o is inside = rw is at inside
 abbrev SameLabels : List Line → Labels → Type 0
 SameLabels lines labels = (name : List ℕ) (a : Address) → IsLabel lines name a → address_of labels name ≡ Some a
 
-declared_said : (lines : List Line) (labels : Labels) (names : List (List ℕ)) (n : ℕ) → names ≡ entries_in lines → AreSaidLabels lines labels → IsDeclaredBy labels names n → IsDeclared lines n
+declared_said : (lines : List Line) (labels : Labels) (names : List (List ℕ)) (n : ℕ) → names ≡ entries_in lines
+    → AreSaidLabels lines labels → IsDeclaredBy labels names n → IsDeclared lines n
 declared_said lines labels names n same said (some, name, among, is) =
     (some, name, subst (λ all. Contains all name) same among, said name (address.Bundle n) is)
 
-said_declared : (lines : List Line) (labels : Labels) (names : List (List ℕ)) (n : ℕ) → names ≡ entries_in lines → SameLabels lines labels → IsDeclared lines n → IsDeclaredBy labels names n
+said_declared : (lines : List Line) (labels : Labels) (names : List (List ℕ)) (n : ℕ) → names ≡ entries_in lines → SameLabels lines labels
+    → IsDeclared lines n → IsDeclaredBy labels names n
 said_declared lines labels names n same found (some, name, among, is) =
     (some, name, subst (λ all. Contains all name) (sym same) among, found name (address.Bundle n) is)
 
 -- The program that lines come to is what they say.
-program_said : (lines : List Line) (t : TextParts) → Follow start 1 lines t → t.current ≡ None → AreLabelsInside t → NoNameFault t → ArePassed (relation_stages (IsEntryOf (program_of t).bundles (program_of t).entries) [] t.relations)
+program_said : (lines : List Line) (t : TextParts) → Follow start 1 lines t → t.current ≡ None → AreLabelsInside t → NoNameFault t
+    → ArePassed (relation_stages (IsEntryOf (program_of t).bundles (program_of t).entries) [] t.relations)
     → IsProgramSaid lines (program_of t)
 program_said lines t follow closed inside clean related =
     let found : SameLabels lines t.labels = λ name a is. label_found lines t name a follow is in
@@ -153,7 +168,9 @@ program_said lines t follow closed inside clean related =
     let many = length_named t.labels 0 t.bundles in
     let good = declared_good t.labels count [] entries t.entries inside (tt, omega arith) clean.entries in
     record {
-      bundles = bundles_said lines t.labels 0 (bundles_in lines) t.bundles said (all_drafted start 1 lines t follow closed refl refl) clean.bundles;
+      bundles =
+          bundles_said lines t.labels 0 (bundles_in lines) t.bundles said (all_drafted start 1 lines t follow closed refl refl)
+          clean.bundles;
       rising = subst (λ n. AreEntries n entries) (sym many) (entries_of_rising count entries good.0);
       entries = λ n. (
         (λ is. declared_said lines t.labels (names_of t.entries) n names said (entry_named t.labels entries t.entries n clean.entries is)),
@@ -162,14 +179,19 @@ program_said lines t follow closed inside clean related =
       bytes = ap padded (all_data start 1 lines t follow);
       ordered = rise_with [] t.relations tt;
       relations = λ r. ((λ is. relation_said lines t r follow is), (λ is. said_relation lines t r follow is));
-      landed = related_landed (IsEntryOf (program_of t).bundles (program_of t).entries) [] t.relations related (λ r never. absurd (none_there r never));
+      landed =
+          related_landed (IsEntryOf (program_of t).bundles (program_of t).entries)
+          [] t.relations related (λ r never. absurd (none_there r never));
       once = λ name a b one other. same_address a b (address_of t.labels name) (found name a one) (found name b other);
-      inside = λ name a is. subst (λ n. IsInside n a) (sym many) (is_inside count a (address_of t.labels name) (found name a is) (label_within (IsInside count) t.labels name inside));
+      inside =
+          λ name a is. subst (λ n. IsInside n a) (sym many) (is_inside count a (address_of t.labels name) (found name a is)
+          (label_within (IsInside count) t.labels name inside));
     }
 
 -- What a text reads as is what it means as a whole.
 pub means_what_it_reads : (text : List ℕ) (p : Program) → MeansWhatItReads text p
 means_what_it_reads text p h =
     let taken = taken_as start 1 (text_lines text) h.parts (Ok h.parts) refl h.lines in
-    let said = program_said taken.values h.parts taken.follow h.whole.0.0 h.whole.0.1 (no_name_fault h.parts h.whole.1.1.0) h.whole.1.1.1.0 in
+    let said =
+    program_said taken.values h.parts taken.follow h.whole.0.0 h.whole.0.1 (no_name_fault h.parts h.whole.1.1.0) h.whole.1.1.1.0 in
     record { lines = taken.values; said = taken.said; program = subst (IsProgramSaid taken.values) (sym h.program) said }

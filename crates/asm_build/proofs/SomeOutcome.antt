@@ -16,16 +16,25 @@ use Rattle.asm_build.proofs.RelationFaults.{is_entry, relations_decided}
 use Rattle.asm_build.proofs.SomeReading.{HaveAnswers, read_or_fault, labels_below, found_decided, first_decided}
 
 relations : (s : TextParts) → AreDecided (relation_stages (IsEntryOf (program_of s).bundles (program_of s).entries) [] s.relations)
-relations s = relations_decided (IsEntryOf (program_of s).bundles (program_of s).entries) (is_entry (program_of s).bundles (program_of s).entries) [] s.relations
+relations s =
+    relations_decided (IsEntryOf (program_of s).bundles (program_of s).entries) (is_entry (program_of s).bundles (program_of s).entries)
+    [] s.relations
 
 end_decided : (count : ℕ) (s : TextParts) → AreDecided (end_stages count s)
 end_decided count s = (
   decided (both (is_none s.current) (labels_below (length s.bundles) s)),
-  (decided (dec_le 1 (length s.bundles)), (found_decided (name_fault s), (first_decided _ (relations s), (long_run_or_none (program_of s).bundles, tt)))),
+  (
+    decided (dec_le 1 (length s.bundles)),
+    (
+      found_decided (name_fault s),
+      (first_decided _ (relations s), (long_run_or_none (program_of s).bundles, tt)),
+    ),
+  ),
 )
 
 pub text_or_fault : HaveAnswers → (text : List ℕ) → TextOrFault text
-text_or_fault answers text = elim (read_or_fault answers program_reading (record { stages = value_decided; ends = end_decided; lines = end_of_line }) text) [
-  | inl (s, says, whole) ↦ inl (program_of s, record { parts = s; lines = says; whole = whole; program = refl })
-  | inr (line, why, has) ↦ inr (line, why, has)
-]
+text_or_fault answers text =
+    elim (read_or_fault answers program_reading (record { stages = value_decided; ends = end_decided; lines = end_of_line }) text) [
+      | inl (s, says, whole) ↦ inl (program_of s, record { parts = s; lines = says; whole = whole; program = refl })
+      | inr (line, why, has) ↦ inr (line, why, has)
+    ]

@@ -41,7 +41,8 @@ says_or_not answers line = elim (dec_le (length line) LINE_LIMIT) [
   ]
 ]
 
-taken_or_refused : {S : Type 0} → HaveAnswers → (reading : LineReading S) → IsDecidedReading reading → (s : S) (line : List ℕ) → ((value : Line) × IsTakenBy reading s line value) ⊎ ((why : Reason) × IsRefusedBy reading s line why)
+taken_or_refused : {S : Type 0} → HaveAnswers → (reading : LineReading S) → IsDecidedReading reading → (s : S) (line : List ℕ)
+    → ((value : Line) × IsTakenBy reading s line value) ⊎ ((why : Reason) × IsRefusedBy reading s line why)
 taken_or_refused answers reading decided s line = elim (says_or_not answers line) [
   | inr (why, nothing) ↦ inr (why, inl nothing)
   | inl (value, says) ↦ elim (some_fault (reading.stages s value) (decided.stages s value)) [
@@ -55,7 +56,8 @@ abbrev HaveOutcome : {S : Type 0} → LineReading S → S → ℕ → List (List
 HaveOutcome {S} reading s n lines =
     ((t : S) × ComesToBy reading s n lines (Ok t)) ⊎ ((line : ℕ) × (why : Reason) × ComesToBy reading s n lines (Err (Fault line why)))
 
-outcome : {S : Type 0} → HaveAnswers → (reading : LineReading S) → IsDecidedReading reading → (s : S) (n : ℕ) (lines : List (List ℕ)) → HaveOutcome reading s n lines
+outcome : {S : Type 0} → HaveAnswers → (reading : LineReading S) → IsDecidedReading reading → (s : S) (n : ℕ) (lines : List (List ℕ))
+    → HaveOutcome reading s n lines
 outcome answers reading decided s n [] = inl (s, refl)
 outcome answers reading decided s n (line ∷ lines) = elim (taken_or_refused answers reading decided s line) [
   | inr (why, refused) ↦ inr (n, why, inl (why, refused, refl))
@@ -68,9 +70,11 @@ outcome answers reading decided s n (line ∷ lines) = elim (taken_or_refused an
 -- All lines are taken and no fault comes after the last, or the text has the fault of a line.
 abbrev pub ReadOrFault : {S : Type 0} → LineReading S → List ℕ → Type 0
 ReadOrFault {S} reading text =
-    ((s : S) × AllSayBy reading text s × ArePassed (reading.ends (length (text_lines text)) s)) ⊎ ((line : ℕ) × (why : Reason) × HasFaultBy reading text (Fault line why))
+    ((s : S) × AllSayBy reading text s × ArePassed (reading.ends (length (text_lines text)) s))
+    ⊎ ((line : ℕ) × (why : Reason) × HasFaultBy reading text (Fault line why))
 
-all_taken : {S : Type 0} (reading : LineReading S) → IsDecidedReading reading → (text : List ℕ) (s : S) → AllSayBy reading text s → ReadOrFault reading text
+all_taken : {S : Type 0} (reading : LineReading S) → IsDecidedReading reading → (text : List ℕ) (s : S) → AllSayBy reading text s
+    → ReadOrFault reading text
 all_taken reading decided text s says = elim (some_fault (reading.ends count s) (decided.ends count s)) [
   | inr passed ↦ inl (s, says, passed)
   | inl (e, fault) ↦
@@ -81,7 +85,8 @@ all_taken reading decided text s says = elim (some_fault (reading.ends count s) 
     count : ℕ
     count = length (text_lines text)
 
-pub read_or_fault : {S : Type 0} → HaveAnswers → (reading : LineReading S) → IsDecidedReading reading → (text : List ℕ) → ReadOrFault reading text
+pub read_or_fault : {S : Type 0} → HaveAnswers → (reading : LineReading S) → IsDecidedReading reading → (text : List ℕ)
+    → ReadOrFault reading text
 read_or_fault answers reading decided text = elim (outcome answers reading decided reading.start 1 (text_lines text)) [
   | inl (s, says) ↦ all_taken reading decided text s says
   | inr (line, why, comes) ↦ inr (line, why, inl comes)

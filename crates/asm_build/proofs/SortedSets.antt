@@ -13,7 +13,8 @@ pub record IsOrderedBy {K : Type 0} (R : K → K → Ordering) (Before : K → K
   pub after : (k n : K) → Before n k → R k n ≡ Greater
 
 -- What a set with one more contains.
-pub put_there : {K : Type 0} (R : K → K → Ordering) (Before : K → K → Type 0) → IsOrderedBy R Before → (k : K) (ns : List K) → Contains (insert_key R ns k) k
+pub put_there : {K : Type 0} (R : K → K → Ordering) (Before : K → K → Type 0) → IsOrderedBy R Before → (k : K) (ns : List K)
+    → Contains (insert_key R ns k) k
 put_there R Before o k [] = first_there k []
 put_there R Before o k (n ∷ ns) = by (o.way k n) (put_there R Before o k ns)
   where
@@ -22,7 +23,8 @@ put_there R Before o k (n ∷ ns) = by (o.way k n) (put_there R Before o k ns)
     by (inr (inl (is, same))) later = rw is (subst (Contains (n ∷ ns)) (sym same) (first_there n ns))
     by (inr (inr (is, more))) later = rw is (later_there n k (insert_key R ns k) later)
 
-pub still_there : {K : Type 0} (R : K → K → Ordering) (Before : K → K → Type 0) → IsOrderedBy R Before → (k m : K) (ns : List K) → Contains ns m → Contains (insert_key R ns k) m
+pub still_there : {K : Type 0} (R : K → K → Ordering) (Before : K → K → Type 0) → IsOrderedBy R Before → (k m : K) (ns : List K)
+    → Contains ns m → Contains (insert_key R ns k) m
 still_there R Before o k m [] is = absurd (none_there m is)
 still_there R Before o k m (n ∷ ns) has = by (o.way k n) (further (first_or_later n m ns has) (still_there R Before o k m ns))
   where
@@ -35,7 +37,8 @@ still_there R Before o k m (n ∷ ns) has = by (o.way k n) (further (first_or_la
     by (inr (inl (is, same))) later = rw is has
     by (inr (inr (is, more))) later = rw is later
 
-pub was_there : {K : Type 0} (R : K → K → Ordering) (Before : K → K → Type 0) → IsOrderedBy R Before → (k m : K) (ns : List K) → Contains (insert_key R ns k) m → (k ≡ m) ⊎ Contains ns m
+pub was_there : {K : Type 0} (R : K → K → Ordering) (Before : K → K → Type 0) → IsOrderedBy R Before → (k m : K) (ns : List K)
+    → Contains (insert_key R ns k) m → (k ≡ m) ⊎ Contains ns m
 was_there R Before o k m [] has = first_or_later k m [] has
 was_there R Before o k m (n ∷ ns) has = by (o.way k n) (was_there R Before o k m ns)
   where
@@ -43,7 +46,8 @@ was_there R Before o k m (n ∷ ns) has = by (o.way k n) (was_there R Before o k
     in_front (inl put) = inl put
     in_front (inr before) = inr (later_there n m ns before)
 
-    further : (n ≡ m) ⊎ Contains (insert_key R ns k) m → (Contains (insert_key R ns k) m → (k ≡ m) ⊎ Contains ns m) → (k ≡ m) ⊎ Contains (n ∷ ns) m
+    further : (n ≡ m) ⊎ Contains (insert_key R ns k) m → (Contains (insert_key R ns k) m → (k ≡ m) ⊎ Contains ns m)
+        → (k ≡ m) ⊎ Contains (n ∷ ns) m
     further (inl first) was = inr (subst (Contains (n ∷ ns)) first (first_there n ns))
     further (inr later) was = in_front (was later)
 
@@ -58,7 +62,8 @@ Chain Before Good low [] = Unit {0}
 Chain Before Good low (n ∷ ns) = Before low n × Good n × Chain Before Good n ns
 
 -- A chain with one more inserted is a chain.
-pub chain_grows : {K : Type 0} (R : K → K → Ordering) (Before : K → K → Type 0) (Good : K → Type 0) → IsOrderedBy R Before → (low k : K) (ns : List K) → Before low k → Good k → Chain Before Good low ns
+pub chain_grows : {K : Type 0} (R : K → K → Ordering) (Before : K → K → Type 0) (Good : K → Type 0) → IsOrderedBy R Before
+    → (low k : K) (ns : List K) → Before low k → Good k → Chain Before Good low ns
     → Chain Before Good low (insert_key R ns k)
 chain_grows R Before Good o low k [] l g c = (l, g, tt)
 chain_grows R Before Good o low k (n ∷ ns) l g c = by (o.way k n) (λ more. chain_grows R Before Good o n k ns more g c.2)
@@ -69,7 +74,8 @@ chain_grows R Before Good o low k (n ∷ ns) l g c = by (o.way k n) (λ more. ch
     by (inr (inr (is, more))) later = rw is (c.0, c.1, later more)
 
 -- A key after all others goes to the end.
-pub at_end : {K : Type 0} (R : K → K → Ordering) (Before : K → K → Type 0) → IsOrderedBy R Before → (ns : List K) (k : K) → AllByRecursion (λ n. Before n k) ns → insert_key R ns k ≡ ns ++ k ∷ []
+pub at_end : {K : Type 0} (R : K → K → Ordering) (Before : K → K → Type 0) → IsOrderedBy R Before → (ns : List K) (k : K)
+    → AllByRecursion (λ n. Before n k) ns → insert_key R ns k ≡ ns ++ k ∷ []
 at_end R Before o [] k h = refl
 at_end R Before o (n ∷ ns) k h =
     let more : R k n ≡ Greater = o.after k n h.0 in

@@ -21,7 +21,8 @@ IsInside count n o = IfSome o (λ i. IfSome (displacement i.op) (IsBundleAt coun
 
 -- Each instruction of a bundle fits it, and its target is inside.
 slots_sound : (units : List ExecutionUnit) (template count n : ℕ) (slots : Slots) → FitUnits units slots
-    → ((slot : ℕ) → IsSome (bundle_insn (Some (record { template = template; slots = slots })) slot) → IsInside count n (bundle_insn (Some (record { template = template; slots = slots })) slot))
+    → ((slot : ℕ) → IsSome (bundle_insn (Some (record { template = template; slots = slots })) slot)
+    → IsInside count n (bundle_insn (Some (record { template = template; slots = slots })) slot))
     → AreSound count n slots
 slots_sound (u ∷ v ∷ w ∷ []) template count n (Three a b c) fit inside =
     let third : IsSound count n c = record { listed = unit_listed c w 2 fit.2.kind; target = inside 2 refl } in
@@ -33,11 +34,13 @@ slots_sound (u ∷ v ∷ w ∷ []) template count n (Long first long) fit inside
 )
 slots_sound _ template count n slots fit inside = absurd fit
 
-bundle_sound : (count n : ℕ) (o : Option Bundle) → IfSome o IsBundle → ((slot : ℕ) → IsSome (bundle_insn o slot) → IsInside count n (bundle_insn o slot)) → IfSome o (λ b. AreSound count n b.slots)
+bundle_sound : (count n : ℕ) (o : Option Bundle) → IfSome o IsBundle
+    → ((slot : ℕ) → IsSome (bundle_insn o slot) → IsInside count n (bundle_insn o slot)) → IfSome o (λ b. AreSound count n b.slots)
 bundle_sound count n None fit inside = tt
 bundle_sound count n (Some b) fit inside = slots_sound (units_of b.template) b.template count n b.slots fit inside
 
-program_inside : (p : Program) → EachPlace p.bundles (IsTargetInside p.bundles) → (n slot : ℕ) → IsSome (bundle_insn (slice_get p.bundles n) slot) → IsInside (length p.bundles) n (bundle_insn (slice_get p.bundles n) slot)
+program_inside : (p : Program) → EachPlace p.bundles (IsTargetInside p.bundles) → (n slot : ℕ)
+    → IsSome (bundle_insn (slice_get p.bundles n) slot) → IsInside (length p.bundles) n (bundle_insn (slice_get p.bundles n) slot)
 unfolding insn_at
 program_inside p h n slot is = h (record { bundle = n; slot = slot }) is
 

@@ -13,7 +13,8 @@ use Rattle.asm_build.proofs.TextLines.{lines_after}
 
 -- After a text, from the k-th line on, the state and the number of the next line are these.
 abbrev pub Goes : TextParts → ℕ → List ℕ → TextParts → ℕ → Type 0
-Goes s k text to next = (more : List ℕ) (r : Result TextParts TextError) → ComesTo to next (text_lines more) r → ComesTo s k (text_lines (text ++ more)) r
+Goes s k text to next =
+    (more : List ℕ) (r : Result TextParts TextError) → ComesTo to next (text_lines more) r → ComesTo s k (text_lines (text ++ more)) r
 
 -- No text.
 pub stays : (s : TextParts) (k : ℕ) → Goes s k [] s k
@@ -36,6 +37,8 @@ plain_of bytes value h = of (has_only_plain bytes) refl
         refused e = cc
 
 -- One line.
-pub line_goes : (s : TextParts) (k : ℕ) (bytes : List ℕ) (value : Line) → Says bytes value → ArePassed (value_stages s value) → Goes s k (line bytes) (after s k value) (k + 1)
+pub line_goes : (s : TextParts) (k : ℕ) (bytes : List ℕ) (value : Line) → Says bytes value → ArePassed (value_stages s value)
+    → Goes s k (line bytes) (after s k value) (k + 1)
 line_goes s k bytes value says passed more r h =
-    subst (λ lines. ComesTo s k lines r) (sym (lines_after bytes more (plain_of bytes value says.reads.reading))) (inr (value, (says, passed), h))
+    subst (λ lines. ComesTo s k lines r) (sym (lines_after bytes more (plain_of bytes value says.reads.reading)))
+    (inr (value, (says, passed), h))

@@ -37,14 +37,17 @@ one_line : (bytes : List ℕ) → has_only_plain bytes ≡ true → lines_of (li
 one_line bytes h =
     let long = length-append bytes (10 ∷ []) in
     lines-one (line bytes) (omega (arith, long)) (λ k less is.
-    no_feed (slice_index bytes k) (plain_at bytes k h (omega (arith, long, less))) (sym (before_last bytes (10 ∷ []) k (omega (arith, long, less))) ∙ is))
+    no_feed (slice_index bytes k) (plain_at bytes k h (omega (arith, long, less)))
+    (sym (before_last bytes (10 ∷ []) k (omega (arith, long, less))) ∙ is))
 
 -- A last byte that is no carriage return stays.
 no_cr_kept : (bytes : List ℕ) → has_only_plain bytes ≡ true → no_cr bytes ≡ bytes
 no_cr_kept [] h = refl
 no_cr_kept (c ∷ cs) h =
     let last = slice_index (c ∷ cs) (length (c ∷ cs) - 1) in
-    cond-false (ltb 0 (length (c ∷ cs)) && (last == 13)) (take (length (c ∷ cs) - 1) (c ∷ cs)) (c ∷ cs) (and_right (ltb 0 (length (c ∷ cs))) (last == 13) (ne_eqb last 13 (no_return last (plain_at (c ∷ cs) (length (c ∷ cs) - 1) h (omega arith)))))
+    cond-false (ltb 0 (length (c ∷ cs)) && (last == 13)) (take (length (c ∷ cs) - 1) (c ∷ cs)) (c ∷ cs)
+    (and_right (ltb 0 (length (c ∷ cs))) (last == 13) (ne_eqb last 13
+    (no_return last (plain_at (c ∷ cs) (length (c ∷ cs) - 1) h (omega arith)))))
 
 -- The line feed is taken off.
 without_feed : (bytes : List ℕ) → has_only_plain bytes ≡ true → without_terminator (line bytes) ≡ bytes
@@ -55,7 +58,8 @@ without_feed bytes h =
     let front : take (length (line bytes) - 1) (line bytes) ≡ bytes = rw last (take-append_seam bytes (10 ∷ [])) in
     let some = ltb 0 (length (line bytes)) in
     let feed = slice_index (line bytes) (length (line bytes) - 1) == 10 in
-    cond-true (some && feed) (no_cr (take (length (line bytes) - 1) (line bytes))) (line bytes) (and_from some feed (lt-ltb 0 (length (line bytes)) (omega (arith, long))) (eq-eqb _ 10 ends)) ∙ ap no_cr front ∙ no_cr_kept bytes h
+    cond-true (some && feed) (no_cr (take (length (line bytes) - 1) (line bytes))) (line bytes)
+    (and_from some feed (lt-ltb 0 (length (line bytes)) (omega (arith, long))) (eq-eqb _ 10 ends)) ∙ ap no_cr front ∙ no_cr_kept bytes h
 
 -- The first line of a text, and those of the rest.
 pub lines_after : (bytes rest : List ℕ) → has_only_plain bytes ≡ true → text_lines (line bytes ++ rest) ≡ bytes ∷ text_lines rest
@@ -63,5 +67,6 @@ lines_after bytes rest h =
     let long : length (line bytes) ≡ length bytes + 1 = length-append bytes (10 ∷ []) in
     let last : length (line bytes) - 1 ≡ length bytes = omega (arith, long) in
     let ends : slice_index (line bytes) (length (line bytes) - 1) ≡ 10 = rw last (last_at bytes 10) in
-    let parts : lines_of (line bytes ++ rest) ≡ line bytes ∷ lines_of rest = lines-append (length (line bytes)) (line bytes) rest (omega arith) (inr ends) ∙ ap (λ ls. ls ++ lines_of rest) (one_line bytes h) in
+    let parts : lines_of (line bytes ++ rest) ≡ line bytes ∷ lines_of rest =
+    lines-append (length (line bytes)) (line bytes) rest (omega arith) (inr ends) ∙ ap (λ ls. ls ++ lines_of rest) (one_line bytes h) in
     ap (map without_terminator) parts ∙ ap (λ l. l ∷ text_lines rest) (without_feed bytes h)

@@ -23,7 +23,8 @@ branch_aimed (op.Br kind wh many clr disp) z slot h = h
 branch_aimed (op.BrCall b1 wh many clr disp) z slot h = h
 branch_aimed x z slot h = h
 
-unit_aimed : (qp : ℕ) (x : Op) (z : ℤ) (u : ExecutionUnit) (slot : ℕ) → FitsSigned 21 z → FitsUnit (record { qp = qp; op = x }) u slot → FitsUnit (record { qp = qp; op = aimed z x }) u slot
+unit_aimed : (qp : ℕ) (x : Op) (z : ℤ) (u : ExecutionUnit) (slot : ℕ) → FitsSigned 21 z → FitsUnit (record { qp = qp; op = x }) u slot
+    → FitsUnit (record { qp = qp; op = aimed z x }) u slot
 unit_aimed qp x z M slot near (inl l) = inl (aimed_a qp x z near l)
 unit_aimed qp x z M slot near (inr l) = inr (aimed_m qp x z near l)
 unit_aimed qp x z I slot near (inl l) = inl (aimed_a qp x z near l)
@@ -33,7 +34,8 @@ unit_aimed qp x z B slot near l = (aimed_b qp x z near l.0, branch_aimed x z slo
 unit_aimed qp x z L slot near l = (aimed_x qp x z l.0, l.1)
 unit_aimed qp x z X slot near l = (aimed_x qp x z l.0, l.1)
 
-pub fits_aimed : (qp : ℕ) (x : Op) (z : ℤ) (u : ExecutionUnit) (slot : ℕ) → FitsSigned 21 z → Fits (record { qp = qp; op = x }) u slot → Fits (record { qp = qp; op = aimed z x }) u slot
+pub fits_aimed : (qp : ℕ) (x : Op) (z : ℤ) (u : ExecutionUnit) (slot : ℕ) → FitsSigned 21 z → Fits (record { qp = qp; op = x }) u slot
+    → Fits (record { qp = qp; op = aimed z x }) u slot
 fits_aimed qp x z u slot near h = record { place = h.place; kind = unit_aimed qp x z u slot near h.kind }
 
 -- It fits the same slots.

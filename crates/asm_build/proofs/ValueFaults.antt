@@ -14,11 +14,13 @@ pub not_none : {T : Type 0} (o : Option T) → is_some o ≡ true → o ≡ None
 not_none None h e = cc
 not_none (Some x) h e = cc
 
-pub twice_there : (s : TextParts) (name : List ℕ) → MayStand s (line.Label name) → is_some (address_of s.labels name) ≡ true → IsFirstFault (value_stages s (line.Label name)) Twice
+pub twice_there : (s : TextParts) (name : List ℕ) → MayStand s (line.Label name) → is_some (address_of s.labels name) ≡ true
+    → IsFirstFault (value_stages s (line.Label name)) Twice
 twice_there s name stands again = inr (stands, inl (tt, refl, not_none (address_of s.labels name) again))
 
 -- The data of a line have no room.
-pub data_full : (s : TextParts) (size : ℕ) (values : List ℕ) (count most : ℕ) → IsIn section.Data s → count ≡ length values → most ≡ min size 8
+pub data_full : (s : TextParts) (size : ℕ) (values : List ℕ) (count most : ℕ) → IsIn section.Data s → count ≡ length values
+    → most ≡ min size 8
     → DATA_LIMIT < length s.bytes + count * most → IsFirstFault (value_stages s (line.Numbers size values)) Limit
 data_full s size values count most stands counted is more =
     let over : DATA_LIMIT < length s.bytes + length values * min size 8 = rw (counted, is) at more in

@@ -44,7 +44,8 @@ abbrev pub outside : List BundleLines → List EntryLine → List RelationLine �
 outside bs es rs ls = record { section = section.Text; current = None; bundles = bs; entries = es; relations = rs; labels = ls; bytes = [] }
 
 abbrev pub inside : OpenBundle → List BundleLines → List EntryLine → List RelationLine → Labels → TextParts
-inside o bs es rs ls = record { section = section.Text; current = Some o; bundles = bs; entries = es; relations = rs; labels = ls; bytes = [] }
+inside o bs es rs ls =
+    record { section = section.Text; current = Some o; bundles = bs; entries = es; relations = rs; labels = ls; bytes = [] }
 
 -- The name of the target of an instruction in the n-th bundle.
 abbrev pub name_in : ℕ → Insn → Option (List ℕ)
@@ -72,34 +73,44 @@ pub record AreLinesOf (n : ℕ) (b : Bundle) (l : BundleLines) : Type 0 where
   pub names : HasNames n b.slots l
 
 -- One slot line.
-slot_goes : SlotsSay → (bs : List BundleLines) (es : List EntryLine) (rs : List RelationLine) (ls : Labels) (k n : ℕ) (o : OpenBundle) (i : Insn) (stop : Bool) → IsListed i → n < 2 ^ 32 → HasSlotRoom o → Fits (until_named i) (next_unit o) (count_of o.slots)
-    → Goes (inside o bs es rs ls) k (text_line (slot_text i n stop)) (inside (opened o.name (one_more o.slots (slot_line k n i stop))) bs es rs ls) (k + 1)
+slot_goes : SlotsSay → (bs : List BundleLines) (es : List EntryLine) (rs : List RelationLine) (ls : Labels) (k n : ℕ) (o : OpenBundle)
+    (i : Insn) (stop : Bool) → IsListed i → n < 2 ^ 32 → HasSlotRoom o → Fits (until_named i) (next_unit o) (count_of o.slots)
+    → Goes (inside o bs es rs ls) k (text_line (slot_text i n stop))
+    (inside (opened o.name (one_more o.slots (slot_line k n i stop))) bs es rs ls) (k + 1)
 slot_goes say bs es rs ls k n o i stop listed low room fits =
-    line_goes (inside o bs es rs ls) k (slot_text i n stop) (printed_line i n stop) (say i n stop listed low) (refl, (tt, (room, (fits, (tt, tt)))))
+    line_goes (inside o bs es rs ls) k (slot_text i n stop) (printed_line i n stop) (say i n stop listed low)
+    (refl, (tt, (room, (fits, (tt, tt)))))
 
 -- `{` and the template name
-head_goes : (bs : List BundleLines) (es : List EntryLine) (rs : List RelationLine) (ls : Labels) (k : ℕ) (s : TemplateName) (template : ℕ) → units_of template ≡ units_named s → length bs < BUNDLE_LIMIT
+head_goes : (bs : List BundleLines) (es : List EntryLine) (rs : List RelationLine) (ls : Labels) (k : ℕ) (s : TemplateName) (template : ℕ)
+    → units_of template ≡ units_named s → length bs < BUNDLE_LIMIT
     → Goes (outside bs es rs ls) k (head_text template) (inside (opened s lines.Zero) bs es rs ls) (k + 1)
 head_goes bs es rs ls k s template units room =
-    subst (λ (us : List ExecutionUnit). Goes (outside bs es rs ls) k (text_line (codes "{ ." ++ map unit_letter us)) (inside (opened s lines.Zero) bs es rs ls) (k + 1)) (sym units)
-    (line_goes (outside bs es rs ls) k (codes "{ ." ++ map unit_letter (units_named s)) (line.Open s) (head_says s) (record { closed = refl; same = refl }, (tt, (tt, (tt, (room, tt))))))
+    subst (λ (us : List ExecutionUnit). Goes (outside bs es rs ls) k (text_line (codes "{ ." ++ map unit_letter us))
+    (inside (opened s lines.Zero) bs es rs ls) (k + 1)) (sym units)
+    (line_goes (outside bs es rs ls) k (codes "{ ." ++ map unit_letter (units_named s)) (line.Open s) (head_says s)
+    (record { closed = refl; same = refl }, (tt, (tt, (tt, (room, tt))))))
 
 -- `}`
-close_goes : (bs : List BundleLines) (es : List EntryLine) (rs : List RelationLine) (ls : Labels) (k : ℕ) (o : OpenBundle) (l : BundleLines) → closed o ≡ Some l → IsBundle l.bundle
+close_goes : (bs : List BundleLines) (es : List EntryLine) (rs : List RelationLine) (ls : Labels) (k : ℕ) (o : OpenBundle) (l : BundleLines)
+    → closed o ≡ Some l → IsBundle l.bundle
     → Goes (inside o bs es rs ls) k (text_line (codes "}")) (outside (bs ++ l ∷ []) es rs ls) (k + 1)
 close_goes bs es rs ls k o l e is =
     let whole : IsWhole o = subst (λ r. IsSomeAnd r (λ b. IsBundle b.bundle)) (sym e) is in
     subst (λ r. Goes (inside o bs es rs ls) k (text_line (codes "}")) (with_bundle (inside o bs es rs ls) r) (k + 1)) e
     (line_goes (inside o bs es rs ls) k (codes "}") line.Close end_says (refl, (tt, (whole, (tt, (tt, tt))))))
 
-unit_at : (s : TemplateName) (us : List ExecutionUnit) (n : ℕ) → units_named s ≡ us → slice_index_or us n X ≡ slice_index_or (units_named s) n X
+unit_at : (s : TemplateName) (us : List ExecutionUnit) (n : ℕ) → units_named s ≡ us
+    → slice_index_or us n X ≡ slice_index_or (units_named s) n X
 unit_at s us n e = ap (λ (vs : List ExecutionUnit). slice_index_or vs n X) (sym e)
 
 -- The lines of three slots.
-three_goes : SlotsSay → (bs : List BundleLines) (es : List EntryLine) (rs : List RelationLine) (ls : Labels) (k n template : ℕ) (s : TemplateName) (a b c : Insn) (u v w : ExecutionUnit) → units_named s ≡ u ∷ v ∷ w ∷ [] → v ≢ L
+three_goes : SlotsSay → (bs : List BundleLines) (es : List EntryLine) (rs : List RelationLine) (ls : Labels) (k n template : ℕ)
+    (s : TemplateName) (a b c : Insn) (u v w : ExecutionUnit) → units_named s ≡ u ∷ v ∷ w ∷ [] → v ≢ L
     → Fits a u 0 → Fits b v 1 → Fits c w 2 → IsListed a → IsListed b → IsListed c → n < 2 ^ 32
     → Goes (inside (opened s lines.Zero) bs es rs ls) k (slots_text n template (slots.Three a b c))
-    (inside (opened s (lines.Three (slot_line k n a (has_stop template 0)) (slot_line (k + 1) n b (has_stop template 1)) (slot_line (k + 1 + 1) n c (has_stop template 2)))) bs es rs ls) (k + 1 + 1 + 1)
+    (inside (opened s (lines.Three (slot_line k n a (has_stop template 0)) (slot_line (k + 1) n b (has_stop template 1))
+    (slot_line (k + 1 + 1) n c (has_stop template 2)))) bs es rs ls) (k + 1 + 1 + 1)
 three_goes say bs es rs ls k n template s a b c u v w units other f g h la lb lc low =
     let first = slot_line k n a (has_stop template 0) in
     let second = slot_line (k + 1) n b (has_stop template 1) in
@@ -107,16 +118,21 @@ three_goes say bs es rs ls k n template s a b c u v w units other f g h la lb lc
     let f_ = subst (λ (x : ExecutionUnit). Fits (until_named a) x 0) (unit_at s (u ∷ v ∷ w ∷ []) 0 units) (fits_until a u 0 f) in
     let g_ = subst (λ (x : ExecutionUnit). Fits (until_named b) x 1) (unit_at s (u ∷ v ∷ w ∷ []) 1 units) (fits_until b v 1 g) in
     let h_ = subst (λ (x : ExecutionUnit). Fits (until_named c) x 2) (unit_at s (u ∷ v ∷ w ∷ []) 2 units) (fits_until c w 2 h) in
-    goes_on (inside (opened s lines.Zero) bs es rs ls) (inside (opened s (lines.One first)) bs es rs ls) (inside (opened s (lines.Three first second third)) bs es rs ls) k (k + 1) (k + 1 + 1 + 1)
-    (text_line (slot_text a n (has_stop template 0))) (text_line (slot_text b n (has_stop template 1)) ++ text_line (slot_text c n (has_stop template 2)))
+    goes_on (inside (opened s lines.Zero) bs es rs ls) (inside (opened s (lines.One first)) bs es rs ls)
+    (inside (opened s (lines.Three first second third)) bs es rs ls) k (k + 1) (k + 1 + 1 + 1)
+    (text_line (slot_text a n (has_stop template 0))) (text_line (slot_text b n (has_stop template 1)) ++ text_line
+    (slot_text c n (has_stop template 2)))
     (slot_goes say bs es rs ls k n (opened s lines.Zero) a (has_stop template 0) la low tt f_)
-    (goes_on (inside (opened s (lines.One first)) bs es rs ls) (inside (opened s (lines.Two first second)) bs es rs ls) (inside (opened s (lines.Three first second third)) bs es rs ls) (k + 1) (k + 1 + 1) (k + 1 + 1 + 1)
+    (goes_on (inside (opened s (lines.One first)) bs es rs ls) (inside (opened s (lines.Two first second)) bs es rs ls)
+    (inside (opened s (lines.Three first second third)) bs es rs ls) (k + 1) (k + 1 + 1) (k + 1 + 1 + 1)
     (text_line (slot_text b n (has_stop template 1))) (text_line (slot_text c n (has_stop template 2)))
     (slot_goes say bs es rs ls (k + 1) n (opened s (lines.One first)) b (has_stop template 1) lb low tt g_)
-    (slot_goes say bs es rs ls (k + 1 + 1) n (opened s (lines.Two first second)) c (has_stop template 2) lc low (short_of s u v w units other) h_))
+    (slot_goes say bs es rs ls (k + 1 + 1) n (opened s (lines.Two first second)) c (has_stop template 2) lc low
+    (short_of s u v w units other) h_))
 
 -- The lines of a bundle with a long instruction are taken one after the other.
-long_goes : SlotsSay → (bs : List BundleLines) (es : List EntryLine) (rs : List RelationLine) (ls : Labels) (k n template : ℕ) (s : TemplateName) (a b : Insn) (u v w : ExecutionUnit) → units_named s ≡ u ∷ v ∷ w ∷ []
+long_goes : SlotsSay → (bs : List BundleLines) (es : List EntryLine) (rs : List RelationLine) (ls : Labels) (k n template : ℕ)
+    (s : TemplateName) (a b : Insn) (u v w : ExecutionUnit) → units_named s ≡ u ∷ v ∷ w ∷ []
     → Fits a u 0 → Fits b v 1 → IsListed a → IsListed b → n < 2 ^ 32
     → Goes (inside (opened s lines.Zero) bs es rs ls) k (slots_text n template (slots.Long a b))
     (inside (opened s (lines.Two (slot_line k n a false) (slot_line (k + 1) n b (has_stop template 2)))) bs es rs ls) (k + 1 + 1)
@@ -125,23 +141,31 @@ long_goes say bs es rs ls k n template s a b u v w units f g la lb low =
     let second = slot_line (k + 1) n b (has_stop template 2) in
     let f_ = subst (λ (x : ExecutionUnit). Fits (until_named a) x 0) (unit_at s (u ∷ v ∷ w ∷ []) 0 units) (fits_until a u 0 f) in
     let g_ = subst (λ (x : ExecutionUnit). Fits (until_named b) x 1) (unit_at s (u ∷ v ∷ w ∷ []) 1 units) (fits_until b v 1 g) in
-    goes_on (inside (opened s lines.Zero) bs es rs ls) (inside (opened s (lines.One first)) bs es rs ls) (inside (opened s (lines.Two first second)) bs es rs ls) k (k + 1) (k + 1 + 1)
+    goes_on (inside (opened s lines.Zero) bs es rs ls) (inside (opened s (lines.One first)) bs es rs ls)
+    (inside (opened s (lines.Two first second)) bs es rs ls) k (k + 1) (k + 1 + 1)
     (text_line (slot_text a n false)) (text_line (slot_text b n (has_stop template 2)))
     (slot_goes say bs es rs ls k n (opened s lines.Zero) a false la low tt f_)
     (slot_goes say bs es rs ls (k + 1) n (opened s (lines.One first)) b (has_stop template 2) lb low tt g_)
 
-at_long : (template : ℕ) → IsNamedBy template_name.Mlx template → template_of template_name.Mlx false false (has_stop template 2) ≡ Some template
+at_long : (template : ℕ) → IsNamedBy template_name.Mlx template
+    → template_of template_name.Mlx false false (has_stop template 2) ≡ Some template
 at_long template named =
-    ap (λ a. template_of template_name.Mlx a false (has_stop template 2)) (sym named.long.0) ∙ ap (λ b. template_of template_name.Mlx (has_stop template 0) b (has_stop template 2)) (sym named.long.1) ∙ same_named template_name.Mlx template named
+    ap (λ a. template_of template_name.Mlx a false (has_stop template 2)) (sym named.long.0)
+    ∙ ap (λ b. template_of template_name.Mlx (has_stop template 0) b (has_stop template 2)) (sym named.long.1)
+    ∙ same_named template_name.Mlx template named
 
-closed_long : (s : TemplateName) (template : ℕ) (a b : SlotLine) → s ≡ template_name.Mlx → IsNamedBy s template → a.stop ≡ false → b.stop ≡ has_stop template 2 → closed_as (lines.Two a b) s ≡ Some (long a b template)
+closed_long : (s : TemplateName) (template : ℕ) (a b : SlotLine) → s ≡ template_name.Mlx → IsNamedBy s template → a.stop ≡ false
+    → b.stop ≡ has_stop template 2 → closed_as (lines.Two a b) s ≡ Some (long a b template)
 closed_long template_name.Mlx template a b is named none last =
-    let same : template_of template_name.Mlx a.stop false b.stop ≡ Some template = ap (λ x. template_of template_name.Mlx x false b.stop) none ∙ ap (λ x. template_of template_name.Mlx false false x) last ∙ at_long template named in
+    let same : template_of template_name.Mlx a.stop false b.stop ≡ Some template =
+    ap (λ x. template_of template_name.Mlx x false b.stop) none ∙ ap (λ x. template_of template_name.Mlx false false x) last
+    ∙ at_long template named in
     ap (option_map (long a b)) same
 closed_long s template a b is named none last = absurd cc
 
 -- The lines of the slots come to an open bundle that is closed as this one.
-pub record SlotsGo (bs : List BundleLines) (es : List EntryLine) (rs : List RelationLine) (ls : Labels) (k n template : ℕ) (s : TemplateName) (contents : Slots) : Type 0 where
+pub record SlotsGo (bs : List BundleLines) (es : List EntryLine) (rs : List RelationLine) (ls : Labels) (k n template : ℕ)
+    (s : TemplateName) (contents : Slots) : Type 0 where
   pub open_bundle : OpenBundle
   pub next : ℕ
   pub read : BundleLines
@@ -149,8 +173,10 @@ pub record SlotsGo (bs : List BundleLines) (es : List EntryLine) (rs : List Rela
   pub whole : closed open_bundle ≡ Some read
   pub same : AreLinesOf n (record { template = template; slots = contents }) read
 
-slots_go : SlotsSay → (bs : List BundleLines) (es : List EntryLine) (rs : List RelationLine) (ls : Labels) (k n count template : ℕ) (s : TemplateName) (contents : Slots) → n < 2 ^ 32 → IsNamedBy s template
-    → (units : List ExecutionUnit) → units_named s ≡ units → FitUnits units contents → AreSound count n contents → SlotsGo bs es rs ls k n template s contents
+slots_go : SlotsSay → (bs : List BundleLines) (es : List EntryLine) (rs : List RelationLine) (ls : Labels) (k n count template : ℕ)
+    (s : TemplateName) (contents : Slots) → n < 2 ^ 32 → IsNamedBy s template
+    → (units : List ExecutionUnit) → units_named s ≡ units → FitUnits units contents → AreSound count n contents
+    → SlotsGo bs es rs ls k n template s contents
 slots_go say bs es rs ls k n count template s (slots.Three a b c) low named (u ∷ v ∷ w ∷ []) e fit sound =
     let first = slot_line k n a (has_stop template 0) in
     let second = slot_line (k + 1) n b (has_stop template 1) in
@@ -159,7 +185,9 @@ slots_go say bs es rs ls k n count template s (slots.Three a b c) low named (u �
       open_bundle = opened s (lines.Three first second third);
       next = k + 1 + 1 + 1;
       read = three first second third template;
-      goes = three_goes say bs es rs ls k n template s a b c u v w e fit.3 fit.0 fit.1 fit.2 sound.0.listed sound.1.0.listed sound.1.1.listed low;
+      goes =
+          three_goes say bs es rs ls k n template s a b c u v w e fit.3 fit.0 fit.1 fit.2 sound.0.listed sound.1.0.listed sound.1.1.listed
+          low;
       whole = ap (option_map (three first second third)) (same_named s template named);
       same = record { bundle = refl; names = (refl, (refl, refl)) };
     }
@@ -182,13 +210,16 @@ bundle_until (u ∷ v ∷ w ∷ []) (slots.Long a b) fit = (fits_until a u 0 fit
 bundle_until units contents fit = absurd fit
 
 -- The lines of a bundle within its brackets come to the bundle.
-pub record BundleGoes (bs : List BundleLines) (es : List EntryLine) (rs : List RelationLine) (ls : Labels) (k n : ℕ) (b : Bundle) : Type 0 where
+pub record BundleGoes (bs : List BundleLines) (es : List EntryLine) (rs : List RelationLine) (ls : Labels) (k n : ℕ)
+    (b : Bundle) : Type 0 where
   pub next : ℕ
   pub read : BundleLines
-  pub goes : Goes (outside bs es rs ls) k (head_text b.template ++ (slots_text n b.template b.slots ++ text_line (codes "}"))) (outside (bs ++ read ∷ []) es rs ls) next
+  pub goes : Goes (outside bs es rs ls) k (head_text b.template ++ (slots_text n b.template b.slots ++ text_line (codes "}")))
+      (outside (bs ++ read ∷ []) es rs ls) next
   pub same : AreLinesOf n b read
 
-pub bundle_goes : SlotsSay → (bs : List BundleLines) (es : List EntryLine) (rs : List RelationLine) (ls : Labels) (k n count : ℕ) (b : Bundle) → n < 2 ^ 32 → length bs < BUNDLE_LIMIT → IsBundle b → AreSound count n b.slots → BundleGoes bs es rs ls k n b
+pub bundle_goes : SlotsSay → (bs : List BundleLines) (es : List EntryLine) (rs : List RelationLine) (ls : Labels) (k n count : ℕ)
+    (b : Bundle) → n < 2 ^ 32 → length bs < BUNDLE_LIMIT → IsBundle b → AreSound count n b.slots → BundleGoes bs es rs ls k n b
 bundle_goes say bs es rs ls k n count b low room fit sound =
     let name = has_name b.template b.slots fit in
     let s = name.0 in
@@ -198,9 +229,13 @@ bundle_goes say bs es rs ls k n count b low room fit sound =
     record {
       next = contents.next + 1;
       read = contents.read;
-      goes = goes_on (outside bs es rs ls) (inside (opened s lines.Zero) bs es rs ls) (outside (bs ++ contents.read ∷ []) es rs ls) k (k + 1) (contents.next + 1) (head_text b.template) (slots_text n b.template b.slots ++ text_line (codes "}"))
+      goes =
+          goes_on (outside bs es rs ls) (inside (opened s lines.Zero) bs es rs ls) (outside (bs ++ contents.read ∷ []) es rs ls) k (k + 1)
+          (contents.next + 1) (head_text b.template) (slots_text n b.template b.slots ++ text_line (codes "}"))
           (head_goes bs es rs ls k s b.template units room)
-          (goes_on (inside (opened s lines.Zero) bs es rs ls) (inside contents.open_bundle bs es rs ls) (outside (bs ++ contents.read ∷ []) es rs ls) (k + 1) contents.next (contents.next + 1) (slots_text n b.template b.slots) (text_line (codes "}"))
+          (goes_on (inside (opened s lines.Zero) bs es rs ls) (inside contents.open_bundle bs es rs ls)
+          (outside (bs ++ contents.read ∷ []) es rs ls) (k + 1) contents.next (contents.next + 1) (slots_text n b.template b.slots)
+          (text_line (codes "}"))
           contents.goes
           (close_goes bs es rs ls contents.next contents.open_bundle contents.read contents.whole is));
       same = contents.same;

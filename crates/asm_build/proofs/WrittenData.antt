@@ -20,7 +20,8 @@ use Rattle.asm_build.proofs.WrittenBundles.{outside}
 
 -- Outside a bundle, where data are being written.
 abbrev pub in_data : List BundleLines → List EntryLine → List RelationLine → Labels → List ℕ → TextParts
-in_data bs es rs ls bytes = record { section = section.Data; current = None; bundles = bs; entries = es; relations = rs; labels = ls; bytes = bytes }
+in_data bs es rs ls bytes =
+    record { section = section.Data; current = None; bundles = bs; entries = es; relations = rs; labels = ls; bytes = bytes }
 
 -- The line feed after a word, where it has one.
 abbrev end_text : ℕ → List ℕ → List ℕ
@@ -35,14 +36,17 @@ end_of_data k = rw (or_right (k % 8 == 7) true refl) refl
 no_end : (k w : ℕ) (ws : List ℕ) → (k % 8 ≡ 7 → ⊥) → end_text k (w ∷ ws) ≡ []
 no_end k w ws h = rw (ne_eqb (k % 8) 7 h) refl
 
-comma_word : (k w : ℕ) (ws : List ℕ) → (k % 8 ≡ 0 → ⊥) → words_text k (w ∷ ws) ≡ (44 ∷ hex_text w) ++ (end_text k ws ++ words_text (k + 1) ws)
+comma_word : (k w : ℕ) (ws : List ℕ) → (k % 8 ≡ 0 → ⊥) → words_text k (w ∷ ws)
+    ≡ (44 ∷ hex_text w) ++ (end_text k ws ++ words_text (k + 1) ws)
 comma_word k w ws h = rw (ne_eqb (k % 8) 0 h) refl
 
-first_word : (k w : ℕ) (ws : List ℕ) → k % 8 ≡ 0 → words_text k (w ∷ ws) ≡ (codes "data8 " ++ hex_text w) ++ (end_text k ws ++ words_text (k + 1) ws)
+first_word : (k w : ℕ) (ws : List ℕ) → k % 8 ≡ 0 → words_text k (w ∷ ws)
+    ≡ (codes "data8 " ++ hex_text w) ++ (end_text k ws ++ words_text (k + 1) ws)
 first_word k w ws h = rw (eq-eqb (k % 8) 0 h) refl
 
 -- After a word come those that its line has room for, and the lines of the rest.
-rest_of_line : (room k : ℕ) (ws : List ℕ) → k % 8 + room ≡ 7 → end_text k ws ++ words_text (k + 1) ws ≡ more_text (take room ws) ++ 10 ∷ words_text (k + 1 + room) (drop room ws)
+rest_of_line : (room k : ℕ) (ws : List ℕ) → k % 8 + room ≡ 7 → end_text k ws ++ words_text (k + 1) ws
+    ≡ more_text (take room ws) ++ 10 ∷ words_text (k + 1 + room) (drop room ws)
 rest_of_line zero k ws h =
     let same : k + 1 + 0 ≡ k + 1 = omega arith in
     ap (λ e. e ++ words_text (k + 1) ws) (end_of_line k ws (omega (arith, h))) ∙ ap (λ m. 10 ∷ words_text m ws) (sym same)
@@ -56,7 +60,8 @@ rest_of_line (suc room) k (w ∷ ws) h =
     ∙ ap (λ m. ((44 ∷ hex_text w) ++ more_text (take room ws)) ++ 10 ∷ words_text m (drop room ws)) same
 
 -- A line of words, and the lines of the rest.
-words_by_line : (k w : ℕ) (ws : List ℕ) → k % 8 ≡ 0 → words_text k (w ∷ ws) ≡ text_line (numbers_text w (take 7 ws)) ++ words_text (k + 8) (drop 7 ws)
+words_by_line : (k w : ℕ) (ws : List ℕ) → k % 8 ≡ 0 → words_text k (w ∷ ws) ≡ text_line (numbers_text w (take 7 ws)) ++ words_text (k + 8)
+    (drop 7 ws)
 words_by_line k w ws h =
     let head = codes "data8 " ++ hex_text w in
     let rest = words_text (k + 8) (drop 7 ws) in
@@ -84,40 +89,60 @@ numbers_both : (xs ys : List ℕ) → numbers_bytes 8 (xs ++ ys) ≡ numbers_byt
 numbers_both xs ys = flat_map-append (λ v. take 8 (to_le_bytes w64 v)) xs ys
 
 -- Lines that come to data.
-pub record DataGoes (from : TextParts) (bs : List BundleLines) (es : List EntryLine) (rs : List RelationLine) (ls : Labels) (line : ℕ) (text bytes : List ℕ) : Type 0 where
+pub record DataGoes (from : TextParts) (bs : List BundleLines) (es : List EntryLine) (rs : List RelationLine) (ls : Labels) (line : ℕ)
+    (text bytes : List ℕ) : Type 0 where
   pub next : ℕ
   pub goes : Goes from line text (in_data bs es rs ls bytes) next
 
 -- The lines of words.
-words_go : (fuel : ℕ) (bs : List BundleLines) (es : List EntryLine) (rs : List RelationLine) (ls : Labels) (bytes : List ℕ) (line k : ℕ) (ws : List ℕ) → length ws ≤ fuel → k % 8 ≡ 0 → AreWords ws → length bytes + length (numbers_bytes 8 ws) ≤ DATA_LIMIT
+words_go : (fuel : ℕ) (bs : List BundleLines) (es : List EntryLine) (rs : List RelationLine) (ls : Labels) (bytes : List ℕ) (line k : ℕ)
+    (ws : List ℕ) → length ws ≤ fuel → k % 8 ≡ 0 → AreWords ws → length bytes + length (numbers_bytes 8 ws) ≤ DATA_LIMIT
     → DataGoes (in_data bs es rs ls bytes) bs es rs ls line (words_text k ws) (bytes ++ numbers_bytes 8 ws)
-words_go fuel bs es rs ls bytes line k [] short eights small room = record { next = line; goes = subst (λ all. Goes (in_data bs es rs ls bytes) line [] (in_data bs es rs ls all) line) (sym (append-nil bytes)) (stays (in_data bs es rs ls bytes) line) }
+words_go fuel bs es rs ls bytes line k [] short eights small room =
+    record {
+      next = line;
+      goes = subst (λ all. Goes (in_data bs es rs ls bytes) line [] (in_data bs es rs ls all) line)
+          (sym (append-nil bytes)) (stays (in_data bs es rs ls bytes) line);
+    }
 words_go zero bs es rs ls bytes line k (w ∷ ws) short eights small room = absurd (omega (arith, short))
 words_go (suc fuel) bs es rs ls bytes line k (w ∷ ws) short eights small room =
     let here = w ∷ take 7 ws in
-    let both : numbers_bytes 8 (w ∷ ws) ≡ numbers_bytes 8 here ++ numbers_bytes 8 (drop 7 ws) = ap (λ vs. numbers_bytes 8 (w ∷ vs)) (sym (take-append-drop 7 ws)) ∙ numbers_both here (drop 7 ws) in
+    let both : numbers_bytes 8 (w ∷ ws) ≡ numbers_bytes 8 here ++ numbers_bytes 8 (drop 7 ws) =
+    ap (λ vs. numbers_bytes 8 (w ∷ vs)) (sym (take-append-drop 7 ws)) ∙ numbers_both here (drop 7 ws) in
     let long = length-append (numbers_bytes 8 here) (numbers_bytes 8 (drop 7 ws)) in
     let size = ap length both in
     let now = bytes ++ numbers_bytes 8 here in
-    let later = words_go fuel bs es rs ls now (line + 1) (k + 8) (drop 7 ws) (omega (arith, short, length-drop 7 ws)) (omega (arith, eights)) (words_left 7 ws small.1) (omega (arith, room, long, size, length-append bytes (numbers_bytes 8 here))) in
+    let later =
+    words_go fuel bs es rs ls now (line + 1) (k + 8) (drop 7 ws) (omega (arith, short, length-drop 7 ws)) (omega (arith, eights))
+    (words_left 7 ws small.1) (omega (arith, room, long, size, length-append bytes (numbers_bytes 8 here))) in
     let one : Goes (in_data bs es rs ls bytes) line (text_line (numbers_text w (take 7 ws))) (in_data bs es rs ls now) (line + 1) =
-    line_goes (in_data bs es rs ls bytes) line (numbers_text w (take 7 ws)) (says.Numbers 8 here) (numbers_say w (take 7 ws) (few_taken 7 ws) (small.0, words_taken 7 ws small.1)) (record { closed = refl; same = refl }, (tt, (tt, (tt, (omega (arith, room, long, size), tt))))) in
-    let all : now ++ numbers_bytes 8 (drop 7 ws) ≡ bytes ++ numbers_bytes 8 (w ∷ ws) = append_assoc bytes (numbers_bytes 8 here) (numbers_bytes 8 (drop 7 ws)) ∙ ap (λ more. bytes ++ more) (sym both) in
-    let go = goes_on (in_data bs es rs ls bytes) (in_data bs es rs ls now) (in_data bs es rs ls (now ++ numbers_bytes 8 (drop 7 ws))) line (line + 1) later.next (text_line (numbers_text w (take 7 ws))) (words_text (k + 8) (drop 7 ws)) one later.goes in
+    line_goes (in_data bs es rs ls bytes) line (numbers_text w (take 7 ws)) (says.Numbers 8 here)
+    (numbers_say w (take 7 ws) (few_taken 7 ws) (small.0, words_taken 7 ws small.1))
+    (record { closed = refl; same = refl }, (tt, (tt, (tt, (omega (arith, room, long, size), tt))))) in
+    let all : now ++ numbers_bytes 8 (drop 7 ws) ≡ bytes ++ numbers_bytes 8 (w ∷ ws) =
+    append_assoc bytes (numbers_bytes 8 here) (numbers_bytes 8 (drop 7 ws)) ∙ ap (λ more. bytes ++ more) (sym both) in
+    let go =
+    goes_on (in_data bs es rs ls bytes) (in_data bs es rs ls now)
+    (in_data bs es rs ls (now ++ numbers_bytes 8 (drop 7 ws))) line (line + 1) later.next (text_line (numbers_text w (take 7 ws)))
+    (words_text (k + 8) (drop 7 ws)) one later.goes in
     record {
       next = later.next;
       goes = subst (λ end. Goes (in_data bs es rs ls bytes) line (words_text k (w ∷ ws)) (in_data bs es rs ls end) later.next) all
-          (subst (λ text. Goes (in_data bs es rs ls bytes) line text (in_data bs es rs ls (now ++ numbers_bytes 8 (drop 7 ws))) later.next) (sym (words_by_line k w ws eights)) go);
+          (subst (λ text. Goes (in_data bs es rs ls bytes) line text (in_data bs es rs ls (now ++ numbers_bytes 8 (drop 7 ws))) later.next)
+          (sym (words_by_line k w ws eights)) go);
     }
 
 -- The lines of data that there are.
-pub data_goes : (bs : List BundleLines) (es : List EntryLine) (rs : List RelationLine) (ls : Labels) (line : ℕ) (ws : List ℕ) → AreWords ws → length (numbers_bytes 8 ws) ≤ DATA_LIMIT
+pub data_goes : (bs : List BundleLines) (es : List EntryLine) (rs : List RelationLine) (ls : Labels) (line : ℕ) (ws : List ℕ) → AreWords ws
+    → length (numbers_bytes 8 ws) ≤ DATA_LIMIT
     → DataGoes (outside bs es rs ls) bs es rs ls line (text_line (codes ".data") ++ words_text 0 ws) (numbers_bytes 8 ws)
 data_goes bs es rs ls line ws small room =
     let words = words_go (length ws) bs es rs ls [] (line + 1) 0 ws (omega arith) refl small (omega (arith, room)) in
     record {
       next = words.next;
-      goes = goes_on (outside bs es rs ls) (in_data bs es rs ls []) (in_data bs es rs ls (numbers_bytes 8 ws)) line (line + 1) words.next (text_line (codes ".data")) (words_text 0 ws)
+      goes =
+          goes_on (outside bs es rs ls) (in_data bs es rs ls []) (in_data bs es rs ls (numbers_bytes 8 ws)) line (line + 1) words.next
+          (text_line (codes ".data")) (words_text 0 ws)
           (line_goes (outside bs es rs ls) line (codes ".data") says.Data data_says (refl, (tt, (tt, (tt, (tt, tt))))))
           words.goes;
     }

@@ -110,7 +110,15 @@ AreFitting s (slots.Three a b c) = FitsAt s 0 a × FitsAt s 1 b × FitsAt s 2 c 
 -- The bundle with one more slot line.
 abbrev pub added : OpenBundle → ℕ → Draft → Bool → OpenBundle
 added o line d stop =
-    record { name = o.name; slots = one_more o.slots (record { line = line; insn = completed d (next_unit o); target = d.target; stop = stop }) }
+    record {
+      name = o.name;
+      slots = one_more o.slots (record {
+        line = line;
+        insn = completed d (next_unit o);
+        target = d.target;
+        stop = stop;
+      });
+    }
 
 -- The bundle with a stop after its last slot line.
 abbrev pub stopped : OpenBundle → OpenBundle
@@ -124,7 +132,12 @@ no_name s = record { line = s.line; target = None }
 
 abbrev pub three : SlotLine → SlotLine → SlotLine → ℕ → BundleLines
 three a b c template =
-    record { bundle = record { template = template; slots = Three a.insn b.insn c.insn }; first = name_of a; second = name_of b; third = name_of c }
+    record {
+      bundle = record { template = template; slots = Three a.insn b.insn c.insn };
+      first = name_of a;
+      second = name_of b;
+      third = name_of c;
+    }
 
 abbrev pub long : SlotLine → SlotLine → ℕ → BundleLines
 long a b template =

@@ -144,7 +144,12 @@ padded bytes = bytes ++ replicate ((8 - length bytes % 8) % 8) 0
 -- The program that the lines say.
 abbrev pub program_of : TextParts → Program
 program_of s =
-    record { bundles = bundles_named s.labels 0 s.bundles; entries = or_none (all_declared s.labels [] s.entries); bytes = padded s.bytes; relations = all_related [] s.relations }
+    record {
+      bundles = bundles_named s.labels 0 s.bundles;
+      entries = or_none (all_declared s.labels [] s.entries);
+      bytes = padded s.bytes;
+      relations = all_related [] s.relations;
+    }
 
 -- The line of a slot.
 abbrev pub slot_line : ℕ → BundleLines → ℕ

@@ -14,7 +14,8 @@ use Rattle.asm_build.specs.declared.reason.TextError.TheVariants.{Fault}
 
 -- The order of relations: by what they are of, then by the lower predicate, then by the higher one.
 abbrev pub relation_cmp : Relation → Relation → Ordering
-relation_cmp = then_cmp (on (λ (r : Relation). r.bundle) nat_cmp) (then_cmp (on (λ (r : Relation). r.p) nat_cmp) (on (λ (r : Relation). r.q) nat_cmp))
+relation_cmp =
+    then_cmp (on (λ (r : Relation). r.bundle) nat_cmp) (then_cmp (on (λ (r : Relation). r.p) nat_cmp) (on (λ (r : Relation). r.q) nat_cmp))
 
 -- The relations of a bundle between a predicate and the higher ones of these.
 abbrev pub relations_above : ℕ → ℕ → List ℕ → List Relation
@@ -59,4 +60,5 @@ pub record IsFit (IsEntry : ℕ → Type 0) (r : Relation) : Type 0 where
 -- Relations rise strictly, and each is one that may be declared.
 abbrev pub AreRelationsOf : (ℕ → Type 0) → List Relation → Type 0
 AreRelationsOf IsEntry relations =
-    (n : ℕ) → n < length relations → IsRelationBefore (relation_before relations n) (relation_at relations n) × IsFit IsEntry (relation_at relations n)
+    (n : ℕ) → n < length relations → IsRelationBefore (relation_before relations n) (relation_at relations n)
+    × IsFit IsEntry (relation_at relations n)

@@ -60,26 +60,89 @@ numbers_bytes size values = flat_map (λ v. take size (to_le_bytes w64 v)) value
 
 -- What lines say, with another section.
 abbrev pub turned : TextParts → Section → TextParts
-turned s section = record { section = section; current = s.current; bundles = s.bundles; entries = s.entries; relations = s.relations; labels = s.labels; bytes = s.bytes }
+turned s section =
+    record {
+      section = section;
+      current = s.current;
+      bundles = s.bundles;
+      entries = s.entries;
+      relations = s.relations;
+      labels = s.labels;
+      bytes = s.bytes;
+    }
 
 abbrev pub with_open : TextParts → Option OpenBundle → TextParts
-with_open s bundle = record { section = s.section; current = bundle; bundles = s.bundles; entries = s.entries; relations = s.relations; labels = s.labels; bytes = s.bytes }
+with_open s bundle =
+    record {
+      section = s.section;
+      current = bundle;
+      bundles = s.bundles;
+      entries = s.entries;
+      relations = s.relations;
+      labels = s.labels;
+      bytes = s.bytes;
+    }
 
 abbrev pub with_label : TextParts → List ℕ → Address → TextParts
-with_label s name address = record { section = s.section; current = s.current; bundles = s.bundles; entries = s.entries; relations = s.relations; labels = insert_entry (slice_cmp nat_cmp) s.labels name address; bytes = s.bytes }
+with_label s name address =
+    record {
+      section = s.section;
+      current = s.current;
+      bundles = s.bundles;
+      entries = s.entries;
+      relations = s.relations;
+      labels = insert_entry (slice_cmp nat_cmp) s.labels name address;
+      bytes = s.bytes;
+    }
 
 abbrev pub with_bytes : TextParts → List ℕ → TextParts
-with_bytes s more = record { section = s.section; current = s.current; bundles = s.bundles; entries = s.entries; relations = s.relations; labels = s.labels; bytes = s.bytes ++ more }
+with_bytes s more =
+    record {
+      section = s.section;
+      current = s.current;
+      bundles = s.bundles;
+      entries = s.entries;
+      relations = s.relations;
+      labels = s.labels;
+      bytes = s.bytes ++ more;
+    }
 
 abbrev pub with_entry : TextParts → EntryLine → TextParts
-with_entry s entry = record { section = s.section; current = s.current; bundles = s.bundles; entries = s.entries ++ entry ∷ []; relations = s.relations; labels = s.labels; bytes = s.bytes }
+with_entry s entry =
+    record {
+      section = s.section;
+      current = s.current;
+      bundles = s.bundles;
+      entries = s.entries ++ entry ∷ [];
+      relations = s.relations;
+      labels = s.labels;
+      bytes = s.bytes;
+    }
 
 abbrev pub with_relation : TextParts → RelationLine → TextParts
-with_relation s relation = record { section = s.section; current = s.current; bundles = s.bundles; entries = s.entries; relations = s.relations ++ relation ∷ []; labels = s.labels; bytes = s.bytes }
+with_relation s relation =
+    record {
+      section = s.section;
+      current = s.current;
+      bundles = s.bundles;
+      entries = s.entries;
+      relations = s.relations ++ relation ∷ [];
+      labels = s.labels;
+      bytes = s.bytes;
+    }
 
 abbrev pub with_bundle : TextParts → Option BundleLines → TextParts
 with_bundle s None = s
-with_bundle s (Some b) = record { section = s.section; current = None; bundles = s.bundles ++ b ∷ []; entries = s.entries; relations = s.relations; labels = s.labels; bytes = s.bytes }
+with_bundle s (Some b) =
+    record {
+      section = s.section;
+      current = None;
+      bundles = s.bundles ++ b ∷ [];
+      entries = s.entries;
+      relations = s.relations;
+      labels = s.labels;
+      bytes = s.bytes;
+    }
 
 abbrev pub closed_of : Option OpenBundle → Option BundleLines
 closed_of None = None

@@ -21,7 +21,8 @@ pub is_short : (width bound : ℕ) (z : ℤ) → FitsSigned width z → 2 ^ (wid
 is_short width bound z h l = is_below (unsigned_abs z) (2 ^ (width - 1)) bound (magnitude_within width z h) l
 
 -- A signed number is in the range of a field of its width.
-pub is_within : (width below above : ℕ) (z : ℤ) → FitsSigned width z → 2 ^ (width - 1) ≡ below → suc above ≡ below → within (negative z) (unsigned_abs z) below above ≡ true
+pub is_within : (width below above : ℕ) (z : ℤ) → FitsSigned width z → 2 ^ (width - 1) ≡ below → suc above ≡ below
+    → within (negative z) (unsigned_abs z) below above ≡ true
 is_within width below above (pos n) h b a = le-leb n above (omega (arith, h, b, a))
 is_within width below above (negsuc n) h b a = le-leb (suc n) below (omega (arith, h, b))
 
@@ -47,7 +48,8 @@ is_multiple (negsuc n) h e = omega (arith, h, e)
 
 pub has_rotating_mask : (z : ℤ) → FitsSigned 44 z → twos 44 z / 1 % 65536 ≡ 0 → has_room RotatingMask (negative z) (unsigned_abs z) ≡ true
 has_rotating_mask z h e =
-    let w : within (negative z) (unsigned_abs z) 8796093022208 8796093022207 ≡ true = is_within 44 8796093022208 8796093022207 z h refl refl in
+    let w : within (negative z) (unsigned_abs z) 8796093022208 8796093022207 ≡ true =
+    is_within 44 8796093022208 8796093022207 z h refl refl in
     rw (w, is_multiple z h e) refl
 
 -- An increment has room in its field, and is at most 16 without its sign.

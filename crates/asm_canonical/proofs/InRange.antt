@@ -61,7 +61,8 @@ below_known : (n width w : ℕ) → (width ≡ w) → n < 2 ^ width → n < 2 ^ 
 below_known n width w e h = subst (λ x. n < 2 ^ x) e h
 
 signed_in_range : (width : ℕ) (z : ℤ) → width ≤ 60 → FitsSigned width z → unsigned_abs z < 2 ^ 64
-signed_in_range width z small h = let g : 2 ^ (width - 1) ≤ 2 ^ 60 = grown (width - 1) 60 (omega (arith, small)) in omega (arith, g, magnitude_within width z h)
+signed_in_range width z small h =
+    let g : 2 ^ (width - 1) ≤ 2 ^ 60 = grown (width - 1) 60 (omega (arith, small)) in omega (arith, g, magnitude_within width z h)
 
 pub taken_in_range : (coding : Coding) (width : ℕ) (value : Value) → Takes coding width value → suits coding width ≡ true → IsInRange value
 taken_in_range c.Absent width v.Absent h s = tt
@@ -92,22 +93,27 @@ taken_in_range c.PredicateMask width (v.Mask n) h s =
     let w : width ≤ 31 = leb-true _ _ s in
     let g : 2 ^ (width + 1) ≤ 2 ^ 32 = grown (width + 1) 32 (omega (arith, w)) in
     omega (arith, g, h.0)
-taken_in_range c.Signed width (v.Signed z) h s = let w : width ≤ 41 = leb-true width 41 (both-right (nat_le 1 width) _ s) in signed_in_range width z (omega (arith, w)) h
-taken_in_range c.RotatingMask width (v.Signed z) h s = let w : width ≤ 41 = leb-true width 41 (both-right (nat_le 1 width) _ s) in signed_in_range (width + 16) z (omega (arith, w)) h.0
-taken_in_range c.Short width (v.Short z) h s = let w : width ≤ 16 = leb-true width 16 (both-right (nat_le 1 width) _ s) in signed_in_range width z (omega (arith, w)) h
+taken_in_range c.Signed width (v.Signed z) h s =
+    let w : width ≤ 41 = leb-true width 41 (both-right (nat_le 1 width) _ s) in signed_in_range width z (omega (arith, w)) h
+taken_in_range c.RotatingMask width (v.Signed z) h s =
+    let w : width ≤ 41 = leb-true width 41 (both-right (nat_le 1 width) _ s) in signed_in_range (width + 16) z (omega (arith, w)) h.0
+taken_in_range c.Short width (v.Short z) h s =
+    let w : width ≤ 16 = leb-true width 16 (both-right (nat_le 1 width) _ s) in signed_in_range width z (omega (arith, w)) h
 taken_in_range c.Displacement width (v.Displacement z) h s = tt
 taken_in_range coding width value h s = absurd h
 
 all_in_range : (os : List Operand) (xs : List Value) → AllTake os xs → list_all is_sized os ≡ true → AllByRecursion IsInRange xs
 all_in_range [] [] h s = tt
-all_in_range (o ∷ os) (x ∷ xs) h s = (taken_in_range o.coding (operand_width o) x h.0 (both-right _ _ (both-left _ _ s)), all_in_range os xs h.1 (both-right _ _ s))
+all_in_range (o ∷ os) (x ∷ xs) h s =
+    (taken_in_range o.coding (operand_width o) x h.0 (both-right _ _ (both-left _ _ s)), all_in_range os xs h.1 (both-right _ _ s))
 all_in_range os xs h s = absurd h
 
 -- The values of an instruction that a table lists are in their ranges.
 pub listed_in_range : (rows : List Row) (i : Insn) → is_table rows ≡ true → IsListedBy rows i → AllByRecursion IsInRange (values_of i)
 listed_in_range rows i h l =
     let r : Row = get_or rows l.1.row_index no_row in
-    all_in_range (operands r) (values_of i) (l.1.row no_row).listed.takes (well_made r (table_made rows l.1.row_index no_row h l.1.inside)).sized
+    all_in_range (operands r) (values_of i) (l.1.row no_row).listed.takes
+    (well_made r (table_made rows l.1.row_index no_row h l.1.inside)).sized
 
 -- The values that an instruction is printed with are in their ranges.
 value_at_in_range : (xs : List Value) (n : ℕ) → AllByRecursion IsInRange xs → IsInRange (at xs n)
@@ -139,9 +145,12 @@ operand_in_range k.Ar x value h = tt
 operand_in_range k.Gr x value h = token_in_range value h
 operand_in_range kind x value h = token_in_range value h
 
-operands_in_range : (ks : List (Kind × ℕ)) (x : Opcode) (xs : List Value) → AllByRecursion IsInRange xs → AllByRecursion IsTokenInRange (map (λ k. operand_of k.0 x (at xs k.1)) ks)
+operands_in_range : (ks : List (Kind × ℕ)) (x : Opcode) (xs : List Value) → AllByRecursion IsInRange xs
+    → AllByRecursion IsTokenInRange (map (λ k. operand_of k.0 x (at xs k.1)) ks)
 operands_in_range [] x xs h = tt
-operands_in_range (kind ∷ ks) x xs h = (operand_in_range kind.0 x (at xs kind.1) (value_at_in_range xs kind.1 h), operands_in_range ks x xs h)
+operands_in_range (kind ∷ ks) x xs h =
+    (operand_in_range kind.0 x (at xs kind.1) (value_at_in_range xs kind.1 h), operands_in_range ks x xs h)
 
-pub printed_in_range : (is : List FormItem) (x : Opcode) (xs : List Value) → AllByRecursion IsInRange xs → AllByRecursion IsTokenInRange (map (λ k. operand_of k.0 x (at (written x xs) k.1)) (form_operands is))
+pub printed_in_range : (is : List FormItem) (x : Opcode) (xs : List Value) → AllByRecursion IsInRange xs
+    → AllByRecursion IsTokenInRange (map (λ k. operand_of k.0 x (at (written x xs) k.1)) (form_operands is))
 printed_in_range is x xs h = operands_in_range (form_operands is) x (written x xs) (written_in_range x xs h)

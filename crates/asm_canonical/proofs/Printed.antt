@@ -28,7 +28,8 @@ use Rattle.asm_canonical.proofs.InRange.{IsInRange, IsTokenInRange, listed_in_ra
 use Rattle.asm_canonical.proofs.Written.{operands_of}
 
 -- A long instruction, whose row has a part of its immediate.
-whole_in_range : (qp : ℕ) (x : Op) → AllByRecursion IsInRange (values_under qp (slot_op x)) → IsWithin x → AllByRecursion IsInRange (values_under qp x)
+whole_in_range : (qp : ℕ) (x : Op) → AllByRecursion IsInRange (values_under qp (slot_op x)) → IsWithin x
+    → AllByRecursion IsInRange (values_under qp x)
 whole_in_range qp (op.Movl r1 imm) h within = (h.0, (h.1.0, (within, (tt, (tt, (tt, (tt, tt)))))))
 whole_in_range qp (op.Break u imm) h within = (h.0, (omega (arith, within), (tt, (tt, (tt, (tt, (tt, tt)))))))
 whole_in_range qp (op.Nop u imm) h within = (h.0, (omega (arith, within), (tt, (tt, (tt, (tt, (tt, tt)))))))
@@ -40,7 +41,8 @@ values_in_range i (inr (inl l)) = listed_in_range rows_i i table_i l
 values_in_range i (inr (inr (inl l))) = listed_in_range rows_m i table_m l
 values_in_range i (inr (inr (inr (inl l)))) = listed_in_range rows_b i table_b l
 values_in_range i (inr (inr (inr (inr (inl l))))) = listed_in_range rows_f i table_f l
-values_in_range i (inr (inr (inr (inr (inr l))))) = whole_in_range i.qp i.op (listed_in_range rows_x (slot_part i) table_x (l.0, l.1.code)) l.1.within
+values_in_range i (inr (inr (inr (inr (inr l))))) =
+    whole_in_range i.qp i.op (listed_in_range rows_x (slot_part i) table_x (l.0, l.1.code)) l.1.within
 
 -- The predicate is the first value, and the others are without it the same.
 pub values_first : (qp : ℕ) (x : Op) → values_under qp x ≡ v.Pr qp ∷ drop 1 (values_under 0 x)
@@ -54,5 +56,8 @@ pub printed : (i : Insn) → IsListed i → (i.qp < 64) × AllByRecursion IsToke
 printed i l =
     let All : List Value → Type 0 = AllByRecursion IsInRange in
     let h = subst All (values_first i.qp i.op) (values_in_range i l) in
-    let other = subst All (sym (first_again i.op)) (lit< tt, h.1) in
-    (h.0, printed_in_range (row_of (form_of (opcode_of i.op) (at (values_under 0 i.op)))).items (opcode_of i.op) (values_under 0 i.op) other)
+    let other = subst All (sym (first_again i.op)) (lit< tt, h.1) in (
+      h.0,
+      printed_in_range (row_of (form_of (opcode_of i.op) (at (values_under 0 i.op)))).items (opcode_of i.op)
+          (values_under 0 i.op) other,
+    )

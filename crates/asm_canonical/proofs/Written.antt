@@ -48,5 +48,6 @@ IsPrinted t.CloseBracket = Unit {0}
 IsPrinted _ = ⊥
 
 -- The syntax of an operation, step by step.
-pub syntax_is : (x : Op) (qp : ℕ) (f : Form) (o : Opcode) (vs ws : List Value) → o ≡ opcode_of x → qp ≡ 0 → vs ≡ values_under qp x → f ≡ form_by o (at vs) → ws ≡ written o vs → syntax_by f o ws ≡ syntax_of x
+pub syntax_is : (x : Op) (qp : ℕ) (f : Form) (o : Opcode) (vs ws : List Value) → o ≡ opcode_of x → qp ≡ 0 → vs ≡ values_under qp x
+    → f ≡ form_by o (at vs) → ws ≡ written o vs → syntax_by f o ws ≡ syntax_of x
 syntax_is x qp f o vs ws e q v g w = rw (w, g, v, q, e) refl

@@ -221,12 +221,14 @@ operand_of kind x value = value_token value
 -- By the row of a form.
 abbrev pub syntax_by : Form → Opcode → List Value → Syntax
 syntax_by f x vs =
-    syntax f (map (λ s. completer_of s.0 x (at vs s.1)) (row_of f).sets) (map (λ k. operand_of k.0 x (at vs k.1)) (operands (row_of f).items))
+    syntax f (map (λ s. completer_of s.0 x (at vs s.1)) (row_of f).sets)
+    (map (λ k. operand_of k.0 x (at vs k.1)) (operands (row_of f).items))
 
 -- A frame is written by its parts: inputs, of which there are none, locals, outputs and rotating registers.
 abbrev pub frame_values : (ℕ → Value) → List Value
 frame_values x =
-    v.Absent ∷ x 1 ∷ v.Wide 0 ∷ v.Wide (small_of (x 3)) ∷ v.Wide (small_of (x 2) - small_of (x 3)) ∷ v.Wide (8 * small_of (x 4)) ∷ v.Absent ∷ []
+    v.Absent ∷ x 1 ∷ v.Wide 0 ∷ v.Wide (small_of (x 3)) ∷ v.Wide (small_of (x 2) - small_of (x 3)) ∷ v.Wide
+    (8 * small_of (x 4)) ∷ v.Absent ∷ []
 
 -- The values as they are written.
 abbrev pub written : Opcode → List Value → List Value

@@ -33,14 +33,19 @@ skipped p r rs h e = rw (h, e) refl
 not_named : (name : List ℕ) (r : FormRow) → begins name r.stem ≡ false → is_named name r ≡ false
 not_named name r h = rw h refl
 
-pub none_named : (low above : ℕ) (name : List ℕ) (rs : List FormRow) → IsElsewhere low above name → list_all (λ r. leads low above r.stem) rs ≡ true → filter (is_named name) rs ≡ []
+pub none_named : (low above : ℕ) (name : List ℕ) (rs : List FormRow) → IsElsewhere low above name
+    → list_all (λ r. leads low above r.stem) rs ≡ true → filter (is_named name) rs ≡ []
 none_named low above name [] e h = refl
 none_named low above name (r ∷ rs) e h =
-    skipped (is_named name) r rs (not_named name r (unlike low above name r.stem e (left _ _ h))) (none_named low above name rs e (right _ _ h))
+    skipped (is_named name) r rs (not_named name r (unlike low above name r.stem e (left _ _ h)))
+    (none_named low above name rs e (right _ _ h))
 
 -- What is kept of joined lists.
-kept_more : (p : FormRow → Bool) (x : FormRow) (xs ys us vs : List FormRow) → filter p (xs ++ ys) ≡ us ++ vs → filter p xs ≡ us → filter p ((x ∷ xs) ++ ys) ≡ filter p (x ∷ xs) ++ vs
-kept_more p x xs ys us vs h e = elim (p x) as (λ b. cond b (x ∷ filter p (xs ++ ys)) (filter p (xs ++ ys)) ≡ cond b (x ∷ filter p xs) (filter p xs) ++ vs) [ true ↦ rw (h, e) refl | false ↦ rw (h, e) refl ]
+kept_more : (p : FormRow → Bool) (x : FormRow) (xs ys us vs : List FormRow) → filter p (xs ++ ys) ≡ us ++ vs → filter p xs ≡ us
+    → filter p ((x ∷ xs) ++ ys) ≡ filter p (x ∷ xs) ++ vs
+kept_more p x xs ys us vs h e =
+    elim (p x) as (λ b. cond b (x ∷ filter p (xs ++ ys)) (filter p (xs ++ ys)) ≡ cond b (x ∷ filter p xs) (filter p xs) ++ vs)
+    [ true ↦ rw (h, e) refl | false ↦ rw (h, e) refl ]
 
 kept : (p : FormRow → Bool) (xs ys : List FormRow) → filter p (xs ++ ys) ≡ filter p xs ++ filter p ys
 kept p [] ys = refl
@@ -52,26 +57,39 @@ elsewhere low above d (c ∷ name) h = h
 
 -- The forms that a name names are those of the rows of its letters, where the rows before them have lower letters and
 -- those after them higher ones.
-in_group : (low above d : ℕ) (name : List ℕ) (before here after found : List FormRow) → before ++ here ++ after ≡ rows → list_all (λ r. leads 46 low r.stem) before ≡ true → list_all (λ r. leads above 256 r.stem) after ≡ true
+in_group : (low above d : ℕ) (name : List ℕ) (before here after found : List FormRow) → before ++ here ++ after ≡ rows
+    → list_all (λ r. leads 46 low r.stem) before ≡ true → list_all (λ r. leads above 256 r.stem) after ≡ true
     → low ≤ get_or name 0 d → get_or name 0 d < above → found ≡ here → map (λ r. r.form) (filter (is_named name) found) ≡ named_forms name
 in_group low above d name before here after found all lower higher g l e =
     let p = is_named name in
     let none_before : filter p before ≡ [] = none_named 46 low name before (elsewhere 46 low d name (inr g)) lower in
     let none_after : filter p after ≡ [] = none_named above 256 name after (elsewhere above 256 d name (inl l)) higher in
-    let split : filter p rows ≡ filter p before ++ filter p here ++ filter p after = ap (filter p) (sym all) ∙ kept p (before ++ here) after ∙ ap (λ xs. xs ++ filter p after) (kept p before here) in
+    let split : filter p rows ≡ filter p before ++ filter p here ++ filter p after =
+    ap (filter p) (sym all) ∙ kept p (before ++ here) after ∙ ap (λ xs. xs ++ filter p after) (kept p before here) in
     ap (map (λ r. r.form)) (ap (filter p) e ∙ sym (split ∙ rw (none_before, none_after) (append-nil _)))
 
-pub in_to_b : (name : List ℕ) (found : List FormRow) (d : ℕ) → found ≡ rows_to_b → get_or name 0 d < 99 → map (λ r. r.form) (filter (is_named name) found) ≡ named_forms name
-in_to_b name found d e l = in_group 0 99 d name [] rows_to_b (rows_c_to_i ++ rows_l_to_n ++ rows_o_to_r ++ rows_from_s) found refl refl refl (omega arith) l e
+pub in_to_b : (name : List ℕ) (found : List FormRow) (d : ℕ) → found ≡ rows_to_b → get_or name 0 d < 99
+    → map (λ r. r.form) (filter (is_named name) found) ≡ named_forms name
+in_to_b name found d e l =
+    in_group 0 99 d name [] rows_to_b (rows_c_to_i ++ rows_l_to_n ++ rows_o_to_r ++ rows_from_s) found refl refl refl (omega arith) l e
 
-pub in_c_to_i : (name : List ℕ) (found : List FormRow) (d : ℕ) → found ≡ rows_c_to_i → 99 ≤ get_or name 0 d → get_or name 0 d < 108 → map (λ r. r.form) (filter (is_named name) found) ≡ named_forms name
-in_c_to_i name found d e g l = in_group 99 108 d name rows_to_b rows_c_to_i (rows_l_to_n ++ rows_o_to_r ++ rows_from_s) found refl refl refl g l e
+pub in_c_to_i : (name : List ℕ) (found : List FormRow) (d : ℕ) → found ≡ rows_c_to_i → 99 ≤ get_or name 0 d → get_or name 0 d < 108
+    → map (λ r. r.form) (filter (is_named name) found) ≡ named_forms name
+in_c_to_i name found d e g l =
+    in_group 99 108 d name rows_to_b rows_c_to_i (rows_l_to_n ++ rows_o_to_r ++ rows_from_s) found refl refl refl g l e
 
-pub in_l_to_n : (name : List ℕ) (found : List FormRow) (d : ℕ) → found ≡ rows_l_to_n → 108 ≤ get_or name 0 d → get_or name 0 d < 111 → map (λ r. r.form) (filter (is_named name) found) ≡ named_forms name
-in_l_to_n name found d e g l = in_group 108 111 d name (rows_to_b ++ rows_c_to_i) rows_l_to_n (rows_o_to_r ++ rows_from_s) found refl refl refl g l e
+pub in_l_to_n : (name : List ℕ) (found : List FormRow) (d : ℕ) → found ≡ rows_l_to_n → 108 ≤ get_or name 0 d → get_or name 0 d < 111
+    → map (λ r. r.form) (filter (is_named name) found) ≡ named_forms name
+in_l_to_n name found d e g l =
+    in_group 108 111 d name (rows_to_b ++ rows_c_to_i) rows_l_to_n (rows_o_to_r ++ rows_from_s) found refl refl refl g l e
 
-pub in_o_to_r : (name : List ℕ) (found : List FormRow) (d : ℕ) → found ≡ rows_o_to_r → 111 ≤ get_or name 0 d → get_or name 0 d < 115 → map (λ r. r.form) (filter (is_named name) found) ≡ named_forms name
-in_o_to_r name found d e g l = in_group 111 115 d name (rows_to_b ++ rows_c_to_i ++ rows_l_to_n) rows_o_to_r rows_from_s found refl refl refl g l e
+pub in_o_to_r : (name : List ℕ) (found : List FormRow) (d : ℕ) → found ≡ rows_o_to_r → 111 ≤ get_or name 0 d → get_or name 0 d < 115
+    → map (λ r. r.form) (filter (is_named name) found) ≡ named_forms name
+in_o_to_r name found d e g l =
+    in_group 111 115 d name (rows_to_b ++ rows_c_to_i ++ rows_l_to_n) rows_o_to_r rows_from_s found refl refl refl g l e
 
-pub in_from_s : (name : List ℕ) (found : List FormRow) (d : ℕ) → found ≡ rows_from_s → 115 ≤ get_or name 0 d → map (λ r. r.form) (filter (is_named name) found) ≡ named_forms name
-in_from_s name found d e g = in_group 115 (suc (get_or name 0 d)) d name (rows_to_b ++ rows_c_to_i ++ rows_l_to_n ++ rows_o_to_r) rows_from_s [] found refl refl refl g (omega arith) e
+pub in_from_s : (name : List ℕ) (found : List FormRow) (d : ℕ) → found ≡ rows_from_s → 115 ≤ get_or name 0 d
+    → map (λ r. r.form) (filter (is_named name) found) ≡ named_forms name
+in_from_s name found d e g =
+    in_group 115 (suc (get_or name 0 d)) d name (rows_to_b ++ rows_c_to_i ++ rows_l_to_n ++ rows_o_to_r) rows_from_s [] found refl refl refl
+    g (omega arith) e

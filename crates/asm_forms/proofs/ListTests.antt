@@ -12,7 +12,8 @@ all_take p (suc i) [] h = refl
 all_take p (suc i) (x ∷ xs) h = and_from _ _ (left _ _ h) (all_take p i xs (right _ _ h))
 
 -- What follows of two tests of one, holds of all where both tests do.
-pub all_both : {A : Type 0} (p q s : A → Bool) → ((x : A) → p x ≡ true → q x ≡ true → s x ≡ true) → (xs : List A) → list_all p xs ≡ true → list_all q xs ≡ true → list_all s xs ≡ true
+pub all_both : {A : Type 0} (p q s : A → Bool) → ((x : A) → p x ≡ true → q x ≡ true → s x ≡ true) → (xs : List A) → list_all p xs ≡ true
+    → list_all q xs ≡ true → list_all s xs ≡ true
 all_both p q s f [] h k = refl
 all_both p q s f (x ∷ xs) h k = and_from _ _ (f x (left _ _ h) (left _ _ k)) (all_both p q s f xs (right _ _ h) (right _ _ k))
 
@@ -30,7 +31,8 @@ all_append p [] ys h = (refl, h)
 all_append p (x ∷ xs) ys h = let r = all_append p xs ys (right _ _ h) in (and_from _ _ (left _ _ h) r.0, r.1)
 
 -- Of lists that are joined, and of what is made of each.
-pub all_flat : {A B : Type 0} (p : B → Bool) (f : A → List B) (xs : List A) → list_all p (flat_map f xs) ≡ true → list_all (λ x. list_all p (f x)) xs ≡ true
+pub all_flat : {A B : Type 0} (p : B → Bool) (f : A → List B) (xs : List A) → list_all p (flat_map f xs) ≡ true
+    → list_all (λ x. list_all p (f x)) xs ≡ true
 all_flat p f [] h = refl
 all_flat p f (x ∷ xs) h = let r = all_append p (f x) (flat_map f xs) h in and_from _ _ r.0 (all_flat p f xs r.1)
 

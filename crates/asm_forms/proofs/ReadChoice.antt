@@ -46,7 +46,9 @@ one_flat f x y (z ∷ zs) (inr h) k = one_back y (f z) _ (one_flat f x y zs h k)
 -- One completer of each set is one of the choices.
 chosen : (ss : List (CompleterSet × ℕ)) (cs : List Completer) → AreChosen ss cs → IsOneOf cs (products ss)
 chosen [] [] h = inl refl
-chosen (s ∷ ss) (x ∷ xs) h = one_flat (λ c. map (λ cs. c ∷ cs) (products ss)) x (x ∷ xs) (members s.0) (one_of (members s.0) x h.0) (one_mapped (λ cs. x ∷ cs) xs (products ss) (chosen ss xs h.1))
+chosen (s ∷ ss) (x ∷ xs) h =
+    one_flat (λ c. map (λ cs. c ∷ cs) (products ss)) x (x ∷ xs) (members s.0) (one_of (members s.0) x h.0)
+    (one_mapped (λ cs. x ∷ cs) xs (products ss) (chosen ss xs h.1))
 chosen [] (x ∷ xs) h = absurd h
 chosen (s ∷ ss) [] h = absurd h
 
@@ -56,17 +58,21 @@ same_of g h [] x e o = absurd o
 same_of g h (y ∷ ys) x e (inl s) = rw s (cc)
 same_of g h (y ∷ ys) x e (inr o) = same_of g h ys x (cc) o
 
-pub same_at : {A B : Type 0} (g h : A → B) (xs : List A) (i : ℕ) (d : A) → map g xs ≡ map h xs → i < length xs → g (get_or xs i d) ≡ h (get_or xs i d)
+pub same_at : {A B : Type 0} (g h : A → B) (xs : List A) (i : ℕ) (d : A) → map g xs ≡ map h xs → i < length xs
+    → g (get_or xs i d) ≡ h (get_or xs i d)
 same_at g h [] i d e l = absurd (omega (arith, l))
 same_at g h (x ∷ xs) zero d e l = cc
 same_at g h (x ∷ xs) (suc i) d e l = same_at g h xs i d (cc) (omega (arith, l))
 
 -- Each choice of completers of each row is read back: a computation over all rows.
-all_read : map (λ r. map (λ cs. completers_in r.sets (flat_map text_of cs)) (products r.sets)) rows ≡ map (λ r. map (λ cs. Some cs) (products r.sets)) rows
+all_read : map (λ r. map (λ cs. completers_in r.sets (flat_map text_of cs)) (products r.sets)) rows
+    ≡ map (λ r. map (λ cs. Some cs) (products r.sets)) rows
 all_read = refl
 
-pub read_choice : (f : Form) (cs : List Completer) → AreChosen (row_of f).sets cs → completers_in (row_of f).sets (flat_map text_of cs) ≡ Some cs
+pub read_choice : (f : Form) (cs : List Completer) → AreChosen (row_of f).sets cs
+    → completers_in (row_of f).sets (flat_map text_of cs) ≡ Some cs
 read_choice f cs h =
     same_of (λ ds. completers_in (row_of f).sets (flat_map text_of ds)) (λ ds. Some ds) (products (row_of f).sets) cs
-    (same_at (λ r. map (λ ds. completers_in r.sets (flat_map text_of ds)) (products r.sets)) (λ r. map (λ ds. Some ds) (products r.sets)) rows (row_index f) first_row all_read (in_table f))
+    (same_at (λ r. map (λ ds. completers_in r.sets (flat_map text_of ds)) (products r.sets))
+    (λ r. map (λ ds. Some ds) (products r.sets)) rows (row_index f) first_row all_read (in_table f))
     (chosen (row_of f).sets cs h)

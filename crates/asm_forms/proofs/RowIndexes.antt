@@ -12,13 +12,16 @@ as_many xs rs e = count xs ∙ ap length e
     count (x ∷ xs) = ap suc (count xs)
 
 -- A row among rows that others follow is found by its number.
-among : (after : List FormRow) (xs : List Seen) (k : ℕ) (d : Seen) (e : FormRow) → k < length xs → seen (get_or xs k d) ≡ get_or (map seen xs ++ after) k e
+among : (after : List FormRow) (xs : List Seen) (k : ℕ) (d : Seen) (e : FormRow) → k < length xs
+    → seen (get_or xs k d) ≡ get_or (map seen xs ++ after) k e
 among after [] k d e h = absurd (omega (arith, h))
 among after (x ∷ xs) zero d e h = refl
 among after (x ∷ xs) (suc k) d e h = among after xs k d e (omega (arith, h))
 
 -- A row among rows behind others is found by its number.
-pub picked : (before here after : List FormRow) (xs : List Seen) (k at : ℕ) (d : Seen) (e : FormRow) → map seen xs ≡ here → k < length xs → at ≡ length before + k
+pub picked : (before here after : List FormRow) (xs : List Seen) (k at : ℕ) (d : Seen) (e : FormRow) → map seen xs ≡ here → k < length xs
+    → at ≡ length before + k
     → seen (get_or xs k d) ≡ get_or (before ++ (here ++ after)) at e
 picked before here after xs k at d e m h p =
-    among after xs k d e h ∙ ap (λ ys. get_or (ys ++ after) k e) m ∙ sym (get_or-append-add before (here ++ after) k e) ∙ ap (λ n. get_or (before ++ (here ++ after)) n e) (sym p)
+    among after xs k d e h ∙ ap (λ ys. get_or (ys ++ after) k e) m ∙ sym (get_or-append-add before (here ++ after) k e)
+    ∙ ap (λ n. get_or (before ++ (here ++ after)) n e) (sym p)

@@ -93,7 +93,8 @@ members set.RelationLe = says s.Le (Relation rel.Lt) ∷ says s.Leu (Relation re
 members set.Le = says s.Le (Relation rel.Lt) ∷ []
 members set.Gt = says s.Gt (Relation rel.Lt) ∷ []
 members set.Equality = says s.Eq (Relation rel.Eq) ∷ says s.Ne (Relation rel.Ne) ∷ []
-members set.Order = says s.Gt (Relation rel.Gt) ∷ says s.Le (Relation rel.Le) ∷ says s.Ge (Relation rel.Ge) ∷ says s.Lt (Relation rel.Lt) ∷ []
+members set.Order =
+    says s.Gt (Relation rel.Gt) ∷ says s.Le (Relation rel.Le) ∷ says s.Ge (Relation rel.Ge) ∷ says s.Lt (Relation rel.Lt) ∷ []
 members set.LaneRelation = says s.Eq (Lane lane.PcmpEq) ∷ says s.Gt (Lane lane.PcmpGt) ∷ []
 members set.Unc = says s.Unc (Compare cmp.Unc) ∷ says s.Absent (Compare cmp.Normal) ∷ []
 members set.TestUnc = says s.Unc (Flag true) ∷ says s.Absent (Flag false) ∷ []
@@ -106,19 +107,30 @@ members set.MoveWhether = says s.Sptk (Small 0) ∷ says s.Dptk (Small 2) ∷ sa
 members set.Imp = says s.Imp (Flag true) ∷ says s.Absent (Flag false) ∷ []
 members set.UnitI = says s.I (InUnit unit.I) ∷ []
 members set.UnitM = says s.M (InUnit unit.M) ∷ []
-members set.LoadType = says s.S (Load load.S) ∷ says s.A (Load load.A) ∷ says s.Sa (Load load.Sa) ∷ says s.Bias (Load load.Bias) ∷ says s.Acq (Load load.Acq) ∷ says s.CClrAcq (Load load.CClrAcq) ∷ says s.CClr (Load load.CClr) ∷ says s.CNc (Load load.CNc) ∷ says s.Absent (Load load.Plain) ∷ []
-members set.LoadTypeFill = says s.S (Load load.S) ∷ says s.A (Load load.A) ∷ says s.Sa (Load load.Sa) ∷ says s.Bias (Load load.Bias) ∷ says s.Acq (Load load.Acq) ∷ says s.CClrAcq (Load load.CClrAcq) ∷ says s.CClr (Load load.CClr) ∷ says s.CNc (Load load.CNc) ∷ says s.Fill (Load load.Fill) ∷ says s.Absent (Load load.Plain) ∷ []
+members set.LoadType =
+    says s.S (Load load.S) ∷ says s.A (Load load.A) ∷ says s.Sa (Load load.Sa) ∷ says s.Bias (Load load.Bias) ∷ says s.Acq
+    (Load load.Acq) ∷ says s.CClrAcq (Load load.CClrAcq) ∷ says s.CClr (Load load.CClr) ∷ says s.CNc (Load load.CNc) ∷ says s.Absent
+    (Load load.Plain) ∷ []
+members set.LoadTypeFill =
+    says s.S (Load load.S) ∷ says s.A (Load load.A) ∷ says s.Sa (Load load.Sa) ∷ says s.Bias (Load load.Bias) ∷ says s.Acq
+    (Load load.Acq) ∷ says s.CClrAcq (Load load.CClrAcq) ∷ says s.CClr (Load load.CClr) ∷ says s.CNc (Load load.CNc) ∷ says s.Fill
+    (Load load.Fill) ∷ says s.Absent (Load load.Plain) ∷ []
 members set.LoadHint = says s.Nt1 (Small 1) ∷ says s.Nta (Small 3) ∷ says s.Absent (Small 0) ∷ []
 members set.StoreType = says s.Rel (Store store.Rel) ∷ says s.Absent (Store store.Plain) ∷ []
 members set.StoreTypeSpill = says s.Rel (Store store.Rel) ∷ says s.Spill (Store store.Spill) ∷ says s.Absent (Store store.Plain) ∷ []
 members set.StoreHint = says s.Nta (Small 3) ∷ says s.Absent (Small 0) ∷ []
 members set.SemaphoreType = says s.Acq (Flag false) ∷ says s.Rel (Flag true) ∷ []
 members set.Cond = says s.Cond Nothing ∷ says s.Absent Nothing ∷ []
-members set.Loop = says s.Wexit (Branch branch.Wexit) ∷ says s.Wtop (Branch branch.Wtop) ∷ says s.Cloop (Branch branch.Cloop) ∷ says s.Cexit (Branch branch.Cexit) ∷ says s.Ctop (Branch branch.Ctop) ∷ []
-members set.Whether = says s.Sptk (Small 0) ∷ says s.Spnt (Small 1) ∷ says s.Dptk (Small 2) ∷ says s.Dpnt (Small 3) ∷ says s.Absent (Small 0) ∷ []
+members set.Loop =
+    says s.Wexit (Branch branch.Wexit) ∷ says s.Wtop (Branch branch.Wtop) ∷ says s.Cloop (Branch branch.Cloop) ∷ says s.Cexit
+    (Branch branch.Cexit) ∷ says s.Ctop (Branch branch.Ctop) ∷ []
+members set.Whether =
+    says s.Sptk (Small 0) ∷ says s.Spnt (Small 1) ∷ says s.Dptk (Small 2) ∷ says s.Dpnt (Small 3) ∷ says s.Absent (Small 0) ∷ []
 members set.Prefetch = says s.Few (Flag false) ∷ says s.Many (Flag true) ∷ says s.Absent (Flag false) ∷ []
 members set.DeallocClr = says s.Clr (Flag true) ∷ says s.Absent (Flag false) ∷ []
-members set.AnyUnit = says s.M (InUnit unit.M) ∷ says s.I (InUnit unit.I) ∷ says s.F (InUnit unit.F) ∷ says s.B (InUnit unit.B) ∷ says s.X (InUnit unit.X) ∷ says s.Absent NoUnit ∷ []
+members set.AnyUnit =
+    says s.M (InUnit unit.M) ∷ says s.I (InUnit unit.I) ∷ says s.F (InUnit unit.F) ∷ says s.B (InUnit unit.B) ∷ says s.X
+    (InUnit unit.X) ∷ says s.Absent NoUnit ∷ []
 members set.ShortUnit = says s.M (InUnit unit.M) ∷ says s.I (InUnit unit.I) ∷ says s.F (InUnit unit.F) ∷ says s.B (InUnit unit.B) ∷ []
 members set.LongUnit = says s.X (InUnit unit.X) ∷ says s.Absent NoUnit ∷ []
 members set.HintUnit = says s.M (InUnit unit.M) ∷ says s.I (InUnit unit.I) ∷ says s.B (InUnit unit.B) ∷ says s.Absent NoUnit ∷ []

@@ -20,7 +20,9 @@ abbrev pub Seen : Type 0
 Seen = RowOf (Bor (List ℕ)) (Bor (List (CompleterSet × ℕ))) (Bor (List FormItem)) (Bor (List (Said × ℕ)))
 
 abbrev pub Listed : Type 0
-Listed = RowOf (record { now : List ℕ }) (record { now : List (CompleterSet × ℕ) }) (record { now : List FormItem }) (record { now : List (Said × ℕ) })
+Listed =
+    RowOf (record { now : List ℕ }) (record { now : List (CompleterSet × ℕ) }) (record { now : List FormItem })
+    (record { now : List (Said × ℕ) })
 
 abbrev pub seen : Seen → FormRow
 seen r = record { form = r.form; stem = r.stem.now; sets = r.sets.now; items = r.items.now; opcode = r.opcode; fixed = r.fixed.now }

@@ -51,7 +51,8 @@ within x = yes tt
 
 pub listed_x : (i : Insn) → Dec (IsListedX i)
 listed_x i =
-    alike (both (as_row_decided rows_x (row_index_x (opcode_of (slot_op i.op))) (slot_part i)) (within i.op)) (λ h. of_row_x i h.0 h.1) (row_of_x i)
+    alike (both (as_row_decided rows_x (row_index_x (opcode_of (slot_op i.op))) (slot_part i)) (within i.op)) (λ h. of_row_x i h.0 h.1)
+    (row_of_x i)
 
 pub listed : (i : Insn) → Dec (IsListed i)
 listed i = either (listed_a i) (either (listed_i i) (either (listed_m i) (either (listed_b i) (either (listed_f i) (listed_x i)))))

@@ -14,7 +14,8 @@ of_nothing : (os : List (Kind × ℕ)) (vs : List Value) → with_operands os []
 of_nothing [] vs = refl
 of_nothing (x ∷ xs) vs = refl
 
-pub of_no_tokens : (items : List FormItem) (ts : List Token) (vs : List Value) → length ts ≡ 0 → vs ≡ with_operands (operands items) (taken items ts) vs
+pub of_no_tokens : (items : List FormItem) (ts : List Token) (vs : List Value) → length ts ≡ 0
+    → vs ≡ with_operands (operands items) (taken items ts) vs
 of_no_tokens [] ts vs e = refl
 of_no_tokens (i ∷ is) [] vs e = sym (of_nothing (operands (i ∷ is)) vs)
 of_no_tokens (i ∷ is) (x ∷ ts) vs e = absurd (omega (arith, e))

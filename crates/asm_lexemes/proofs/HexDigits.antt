@@ -8,9 +8,11 @@ before : (k n : ℕ) (acc : List ℕ) → digits_onto k 16 false n acc ≡ digit
 before zero n acc = refl
 before (suc k) n acc =
     let g = digit_glyph false (n % 16) in
-    elim (eqb (n / 16) 0) as (λ b. cond b (g ∷ acc) (digits_onto k 16 false (n / 16) (g ∷ acc)) ≡ cond b (g ∷ []) (digits_onto k 16 false (n / 16) (g ∷ [])) ++ acc) [
+    elim (eqb (n / 16) 0) as (λ b. cond b (g ∷ acc) (digits_onto k 16 false (n / 16) (g ∷ acc)) ≡ cond b (g ∷ [])
+    (digits_onto k 16 false (n / 16) (g ∷ [])) ++ acc) [
       | true ↦ refl
-      | false ↦ before k (n / 16) (g ∷ acc) ∙ sym (ap (λ x. x ++ acc) (before k (n / 16) (g ∷ [])) ∙ append_assoc (digits_onto k 16 false (n / 16) []) (g ∷ []) acc)
+      | false ↦ before k (n / 16) (g ∷ acc) ∙ sym (ap (λ x. x ++ acc) (before k (n / 16) (g ∷ []))
+          ∙ append_assoc (digits_onto k 16 false (n / 16) []) (g ∷ []) acc)
     ]
 
 fuel : (k n : ℕ) (acc : List ℕ) → 0 < k → n < 16 ^ k → digits_onto (suc k) 16 false n acc ≡ digits_onto k 16 false n acc
@@ -20,7 +22,8 @@ fuel (suc (suc k)) n acc h l =
     let g = digit_glyph false (n % 16) in
     let p : 16 ^ suc (suc k) ≡ 16 ^ suc k * 16 = pow-suc 16 (suc k) in
     let m : n / 16 < 16 ^ suc k = omega (arith, p) in
-    elim (eqb (n / 16) 0) as (λ b. cond b (g ∷ acc) (digits_onto (suc (suc k)) 16 false (n / 16) (g ∷ acc)) ≡ cond b (g ∷ acc) (digits_onto (suc k) 16 false (n / 16) (g ∷ acc))) [ true ↦ refl | false ↦ fuel (suc k) (n / 16) (g ∷ acc) (omega arith) m ]
+    elim (eqb (n / 16) 0) as (λ b. cond b (g ∷ acc) (digits_onto (suc (suc k)) 16 false (n / 16) (g ∷ acc)) ≡ cond b (g ∷ acc)
+    (digits_onto (suc k) 16 false (n / 16) (g ∷ acc))) [ true ↦ refl | false ↦ fuel (suc k) (n / 16) (g ∷ acc) (omega arith) m ]
 
 pub hex_step : (n : ℕ) → 16 ≤ n → n < 18446744073709551616 → digits 16 false n ≡ digits 16 false (n / 16) ++ digit_glyph false (n % 16) ∷ []
 unfolding digits

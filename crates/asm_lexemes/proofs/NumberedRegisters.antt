@@ -26,13 +26,16 @@ too_high limit ds h =
     let t : ltb (digits_value 10 ds) limit ≡ false = grind (arith, nat_tests) in
     rw t (either (not (are_digits 10 ds) || has_needless_zero ds) None refl)
 
-pub more_digits : (ds : List ℕ) (i : ℕ) → i < length ds → are_digits 10 (drop i ds) ≡ are_digits 10 ds → is_digit_byte (get_or ds i 0) ≡ true → are_digits 10 (drop (i + 1) ds) ≡ are_digits 10 ds
+pub more_digits : (ds : List ℕ) (i : ℕ) → i < length ds → are_digits 10 (drop i ds) ≡ are_digits 10 ds
+    → is_digit_byte (get_or ds i 0) ≡ true → are_digits 10 (drop (i + 1) ds) ≡ are_digits 10 ds
 more_digits ds i h so digit = sym (at_drop_more (are_digits 10) ds i 0 h ∙ rw (is_digit (get_or ds i 0) digit) refl) ∙ so
 
-pub more_value : (ds : List ℕ) (i n : ℕ) → i < length ds → n ≡ digits_value 10 (take i ds) → is_digit_byte (get_or ds i 0) ≡ true → n * 10 + (get_or ds i 0 - 48) ≡ digits_value 10 (take (i + 1) ds)
+pub more_value : (ds : List ℕ) (i n : ℕ) → i < length ds → n ≡ digits_value 10 (take i ds) → is_digit_byte (get_or ds i 0) ≡ true
+    → n * 10 + (get_or ds i 0 - 48) ≡ digits_value 10 (take (i + 1) ds)
 more_value ds i n h is digit = one_more 10 ds i n (get_or ds i 0 - 48) h is (digit_of (get_or ds i 0) digit)
 
-pub past_limit : (limit : ℕ) (ds : List ℕ) (i n : ℕ) → i < length ds → n ≡ digits_value 10 (take i ds) → is_digit_byte (get_or ds i 0) ≡ true → limit ≤ n * 10 + (get_or ds i 0 - 48) → None ≡ numbered limit ds
+pub past_limit : (limit : ℕ) (ds : List ℕ) (i n : ℕ) → i < length ds → n ≡ digits_value 10 (take i ds)
+    → is_digit_byte (get_or ds i 0) ≡ true → limit ≤ n * 10 + (get_or ds i 0 - 48) → None ≡ numbered limit ds
 past_limit limit ds i n h is digit high =
     let v = more_value ds i n h is digit in
     let low = digits_value-take-le 10 ds (i + 1) (omega arith) in

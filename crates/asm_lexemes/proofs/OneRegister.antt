@@ -15,7 +15,8 @@ spell_none (e ∷ es) = is_none (numbered_register e.0) && spell_none es
 not_numbered : (name : List ℕ) (x : Token) → is_none (numbered_register name) ≡ true → numbered_register name ≡ Some x → ⊥
 not_numbered name x none is = let h : false ≡ true = sym (ap is_none is) ∙ none in cc
 
-look_none : (es : List (List ℕ × Token)) (name : List ℕ) (x : Token) → spell_none es ≡ true → numbered_register name ≡ Some x → look_up es name ≡ None
+look_none : (es : List (List ℕ × Token)) (name : List ℕ) (x : Token) → spell_none es ≡ true → numbered_register name ≡ Some x
+    → look_up es name ≡ None
 look_none [] name x none is = refl
 look_none (e ∷ es) name x none is = other (bytes_eq name e.0) refl (look_none es name x (right _ _ none) is)
   where

@@ -79,7 +79,8 @@ br_reads n h = br_from n _ (eqb-true _ _ (below is_br 8 n brs h))
 
 digits_are : (base : ℕ) (ds : List ℕ) → AllDigits base ds → are_digits base ds ≡ true
 digits_are base [] h = refl
-digits_are base (c ∷ cs) h = let e : ltb (digit_value c) base ≡ true = le-leb (suc (digit_value c)) base h.0 in rw (e, digits_are base cs h.1) refl
+digits_are base (c ∷ cs) h =
+    let e : ltb (digit_value c) base ≡ true = le-leb (suc (digit_value c)) base h.0 in rw (e, digits_are base cs h.1) refl
 
 pub is_decimal_byte : (c : ℕ) → digit_value c < 10 → is_digit_byte c ≡ true
 is_decimal_byte c h = let r = digit_from_value c h in grind (arith, nat_tests, r)
@@ -87,7 +88,8 @@ is_decimal_byte c h = let r = digit_from_value c h in grind (arith, nat_tests, r
 pub is_hex_byte : (c : ℕ) → digit_value c < 16 → is_name_byte c ≡ true
 is_hex_byte c h = grind (arith, nat_tests)
 
-based_reads : (s : Bool) (base : ℕ) (ds : List ℕ) (m : ℕ) → m < 18446744073709551616 → IsNumeral base ds → digits_value base ds ≡ m → based s base ds ≡ t.Number s m
+based_reads : (s : Bool) (base : ℕ) (ds : List ℕ) (m : ℕ) → m < 18446744073709551616 → IsNumeral base ds → digits_value base ds ≡ m
+    → based s base ds ≡ t.Number s m
 based_reads s base [] m l h e = absurd (omega (arith, h.0))
 based_reads s base (c ∷ cs) m l h e =
     let n : numeral base (c ∷ cs) ≡ Some m = sym (is_held base (c ∷ cs) (omega arith)) ∙ ap (λ x. Some x) e in
@@ -95,11 +97,13 @@ based_reads s base (c ∷ cs) m l h e =
 
 unsigned_decimal : (s : Bool) (ds : List ℕ) → AllDigits 10 ds → unsigned_token s ds ≡ based s 10 ds
 unsigned_decimal s [] h = refl
-unsigned_decimal s (c ∷ []) h = elim (eqb c 48) as (λ b. cond b (based s 10 (c ∷ [])) (based s 10 (c ∷ [])) ≡ based s 10 (c ∷ [])) [ true ↦ refl | false ↦ refl ]
+unsigned_decimal s (c ∷ []) h =
+    elim (eqb c 48) as (λ b. cond b (based s 10 (c ∷ [])) (based s 10 (c ∷ [])) ≡ based s 10 (c ∷ [])) [ true ↦ refl | false ↦ refl ]
 unsigned_decimal s (c ∷ d ∷ ds) h =
     let r = digit_from_value d h.1.0 in
     let n : eqb d 120 ≡ false = grind (arith, nat_tests, r) in
-    rw n (elim (eqb c 48) as (λ b. cond b (based s 10 (c ∷ d ∷ ds)) (based s 10 (c ∷ d ∷ ds)) ≡ based s 10 (c ∷ d ∷ ds)) [ true ↦ refl | false ↦ refl ])
+    rw n (elim (eqb c 48) as (λ b. cond b (based s 10 (c ∷ d ∷ ds)) (based s 10 (c ∷ d ∷ ds)) ≡ based s 10 (c ∷ d ∷ ds))
+    [ true ↦ refl | false ↦ refl ])
 
 number_decimal : (ds : List ℕ) → AllDigits 10 ds → number_token ds ≡ unsigned_token false ds
 number_decimal [] h = refl
@@ -179,18 +183,23 @@ decimals_lexed : (ds cs : List ℕ) → IsNumeral 10 ds → is_end cs ≡ true �
 decimals_lexed [] cs h e = absurd (omega (arith, h.0))
 decimals_lexed (c ∷ n) cs h e = number_lexed c n cs (is_decimal_byte c h.1.0) (decimal_digits_are_name_bytes n h.1.1) e
 
-minus_decimals_lexed : (ds cs : List ℕ) → IsNumeral 10 ds → is_end cs ≡ true → lexed 0 (45 ∷ ds ++ cs) ≡ (lexeme.Number, 45 ∷ ds) ∷ lexed 0 cs
+minus_decimals_lexed : (ds cs : List ℕ) → IsNumeral 10 ds → is_end cs ≡ true
+    → lexed 0 (45 ∷ ds ++ cs) ≡ (lexeme.Number, 45 ∷ ds) ∷ lexed 0 cs
 minus_decimals_lexed [] cs h e = absurd (omega (arith, h.0))
 minus_decimals_lexed (c ∷ n) cs h e = minus_lexed c n cs (is_decimal_byte c h.1.0) (decimal_digits_are_name_bytes n h.1.1) e
 
-pub decimal_lexed : (n : ℕ) (cs : List ℕ) → n < 2 ^ 64 → is_end cs ≡ true → lexed 0 (decimal n ++ cs) ≡ (lexeme.Number, decimal n) ∷ lexed 0 cs
+pub decimal_lexed : (n : ℕ) (cs : List ℕ) → n < 2 ^ 64 → is_end cs ≡ true
+    → lexed 0 (decimal n ++ cs) ≡ (lexeme.Number, decimal n) ∷ lexed 0 cs
 decimal_lexed n cs l e = decimals_lexed (decimal n) cs (decimal_is_IsNumeral n l).0 e
 
-pub minus_decimal_lexed : (n : ℕ) (cs : List ℕ) → n < 2 ^ 64 → is_end cs ≡ true → lexed 0 (45 ∷ decimal n ++ cs) ≡ (lexeme.Number, 45 ∷ decimal n) ∷ lexed 0 cs
+pub minus_decimal_lexed : (n : ℕ) (cs : List ℕ) → n < 2 ^ 64 → is_end cs ≡ true
+    → lexed 0 (45 ∷ decimal n ++ cs) ≡ (lexeme.Number, 45 ∷ decimal n) ∷ lexed 0 cs
 minus_decimal_lexed n cs l e = minus_decimals_lexed (decimal n) cs (decimal_is_IsNumeral n l).0 e
 
-pub hex_lexed : (n : ℕ) (cs : List ℕ) → n < 2 ^ 64 → is_end cs ≡ true → lexed 0 (48 ∷ 120 ∷ digits 16 false n ++ cs) ≡ (lexeme.Number, 48 ∷ 120 ∷ digits 16 false n) ∷ lexed 0 cs
+pub hex_lexed : (n : ℕ) (cs : List ℕ) → n < 2 ^ 64 → is_end cs ≡ true
+    → lexed 0 (48 ∷ 120 ∷ digits 16 false n ++ cs) ≡ (lexeme.Number, 48 ∷ 120 ∷ digits 16 false n) ∷ lexed 0 cs
 hex_lexed n cs l e = number_lexed 48 (120 ∷ digits 16 false n) cs refl (hex_is_name_bytes n l) e
 
-pub minus_hex_lexed : (n : ℕ) (cs : List ℕ) → n < 2 ^ 64 → is_end cs ≡ true → lexed 0 (45 ∷ 48 ∷ 120 ∷ digits 16 false n ++ cs) ≡ (lexeme.Number, 45 ∷ 48 ∷ 120 ∷ digits 16 false n) ∷ lexed 0 cs
+pub minus_hex_lexed : (n : ℕ) (cs : List ℕ) → n < 2 ^ 64 → is_end cs ≡ true
+    → lexed 0 (45 ∷ 48 ∷ 120 ∷ digits 16 false n ++ cs) ≡ (lexeme.Number, 45 ∷ 48 ∷ 120 ∷ digits 16 false n) ∷ lexed 0 cs
 minus_hex_lexed n cs l e = minus_lexed 48 (120 ∷ digits 16 false n) cs refl (hex_is_name_bytes n l) e

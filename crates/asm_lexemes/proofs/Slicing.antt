@@ -10,11 +10,15 @@ use Rattle.asm_lexemes.specs.Slices.{IsPart, AreInOrder, AreSlices}
 
 run_le : (cs : List ℕ) → name_run cs ≤ length cs
 run_le [] = omega arith
-run_le (c ∷ cs) = elim (is_name_byte c) as (λ b. cond b (name_run cs + 1) 0 ≤ suc (length cs)) [ true ↦ let h = run_le cs in omega arith | false ↦ omega arith ]
+run_le (c ∷ cs) =
+    elim (is_name_byte c) as (λ b. cond b (name_run cs + 1) 0 ≤ suc (length cs))
+    [ true ↦ let h = run_le cs in omega arith | false ↦ omega arith ]
 
 quoted_le : (cs : List ℕ) → quoted_run cs ≤ length cs
 quoted_le [] = omega arith
-quoted_le (c ∷ cs) = elim (eqb c 34) as (λ b. cond b 1 (quoted_run cs + 1) ≤ suc (length cs)) [ true ↦ omega arith | false ↦ let h = quoted_le cs in omega arith ]
+quoted_le (c ∷ cs) =
+    elim (eqb c 34) as (λ b. cond b 1 (quoted_run cs + 1) ≤ suc (length cs))
+    [ true ↦ omega arith | false ↦ let h = quoted_le cs in omega arith ]
 
 by_kind : (k : LexemeKind) (a q m n : ℕ) → a ≤ n → q ≤ n → m ≤ n → pick k a a q m ≤ n
 by_kind lexeme.Name a q m n ha hq hm = ha
@@ -36,24 +40,32 @@ parts (suc k) at n (c ∷ cs) h = parts k (at + 1) n cs (omega arith)
 parts zero at n (c ∷ cs) h =
     let m = more_le c cs in
     let here : IsPart n (record { kind = kind_at c cs; start = at; end = at + 1 + more_at c cs }) = (omega arith, omega arith) in
-    elim (is_blank c) as (λ b. AllByRecursion (IsPart n) (cond b (lexemes_from 0 (at + 1) cs) (cond (begins_comment c cs) [] (record { kind = kind_at c cs; start = at; end = at + 1 + more_at c cs } ∷ lexemes_from (more_at c cs + sharp_at c cs) (at + 1) cs)))) [
+    elim (is_blank c) as (λ b. AllByRecursion (IsPart n) (cond b (lexemes_from 0 (at + 1) cs)
+    (cond (begins_comment c cs) [] (record { kind = kind_at c cs; start = at; end = at + 1 + more_at c cs } ∷ lexemes_from
+    (more_at c cs + sharp_at c cs) (at + 1) cs)))) [
       | true ↦ parts 0 (at + 1) n cs (omega arith)
-      | false ↦ elim (begins_comment c cs) as (λ b. AllByRecursion (IsPart n) (cond b [] (record { kind = kind_at c cs; start = at; end = at + 1 + more_at c cs } ∷ lexemes_from (more_at c cs + sharp_at c cs) (at + 1) cs))) [
-        | true ↦ tt
-        | false ↦ (here, parts (more_at c cs + sharp_at c cs) (at + 1) n cs (omega arith))
-      ]
+      | false ↦ elim (begins_comment c cs) as (λ b. AllByRecursion (IsPart n)
+          (cond b [] (record { kind = kind_at c cs; start = at; end = at + 1 + more_at c cs } ∷ lexemes_from
+          (more_at c cs + sharp_at c cs) (at + 1) cs))) [
+            | true ↦ tt
+            | false ↦ (here, parts (more_at c cs + sharp_at c cs) (at + 1) n cs (omega arith))
+          ]
     ]
 
 order : (skip at from : ℕ) (cs : List ℕ) → from ≤ at + skip → AreInOrder from (lexemes_from skip at cs)
 order skip at from [] h = tt
 order (suc k) at from (c ∷ cs) h = order k (at + 1) from cs (omega arith)
 order zero at from (c ∷ cs) h =
-    elim (is_blank c) as (λ b. AreInOrder from (cond b (lexemes_from 0 (at + 1) cs) (cond (begins_comment c cs) [] (record { kind = kind_at c cs; start = at; end = at + 1 + more_at c cs } ∷ lexemes_from (more_at c cs + sharp_at c cs) (at + 1) cs)))) [
+    elim (is_blank c) as (λ b. AreInOrder from (cond b (lexemes_from 0 (at + 1) cs)
+    (cond (begins_comment c cs) [] (record { kind = kind_at c cs; start = at; end = at + 1 + more_at c cs } ∷ lexemes_from
+    (more_at c cs + sharp_at c cs) (at + 1) cs)))) [
       | true ↦ order 0 (at + 1) from cs (omega arith)
-      | false ↦ elim (begins_comment c cs) as (λ b. AreInOrder from (cond b [] (record { kind = kind_at c cs; start = at; end = at + 1 + more_at c cs } ∷ lexemes_from (more_at c cs + sharp_at c cs) (at + 1) cs))) [
-        | true ↦ tt
-        | false ↦ (omega arith, order (more_at c cs + sharp_at c cs) (at + 1) (at + 1 + more_at c cs) cs (omega arith))
-      ]
+      | false ↦ elim (begins_comment c cs) as (λ b. AreInOrder from
+          (cond b [] (record { kind = kind_at c cs; start = at; end = at + 1 + more_at c cs } ∷ lexemes_from
+          (more_at c cs + sharp_at c cs) (at + 1) cs))) [
+            | true ↦ tt
+            | false ↦ (omega arith, order (more_at c cs + sharp_at c cs) (at + 1) (at + 1 + more_at c cs) cs (omega arith))
+          ]
     ]
 
 -- The lexemes of a line are nonempty parts of it, in order.

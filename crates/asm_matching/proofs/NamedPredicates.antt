@@ -58,7 +58,8 @@ first_kept : (test : ℕ → Bool) (a n p m : ℕ) → test p ≡ true → a + n
     → filter test (range_with_len a n) ≡ p ∷ filter test (range_with_len (p + 1) m)
 first_kept test a zero p m h e l others = absurd (omega (arith, e, l))
 first_kept test a (suc n) p m h e l others = elim (cases_lt a p) [
-  | inl below ↦ rw (others a (omega arith) below) (first_kept test (a + 1) n p m h (omega (arith, e)) (omega (arith, below)) (λ k j u. others k (omega (arith, j)) u))
+  | inl below ↦ rw (others a (omega arith) below) (first_kept test (a + 1) n p m h (omega (arith, e)) (omega (arith, below))
+      (λ k j u. others k (omega (arith, j)) u))
   | inr above ↦
       let here : a ≡ p = omega (arith, l, above) in
       let rest : n ≡ m = omega (arith, e, here) in
@@ -72,6 +73,8 @@ two p q = t.Mutex ∷ t.Comma ∷ t.Pr p ∷ t.Comma ∷ t.Pr q ∷ []
 pub two_named : (p q : ℕ) → 1 ≤ p → p < q → q ≤ 15 → named_predicates (two p q) ≡ p ∷ q ∷ []
 unfolding named_predicates
 two_named p q some less few =
-    first_kept (is_named (two p q)) 1 15 p (15 - p) (grind (arith, nat_tests)) (omega (arith, less, few)) some (λ k l u. grind (arith, nat_tests))
-    ∙ ap (λ xs. p ∷ xs) (first_kept (is_named (two p q)) (p + 1) (15 - p) q (15 - q) (grind (arith, nat_tests)) (omega (arith, less, few)) (omega (arith, less)) (λ k l u. grind (arith, nat_tests))
+    first_kept (is_named (two p q)) 1 15 p (15 - p) (grind (arith, nat_tests))
+    (omega (arith, less, few)) some (λ k l u. grind (arith, nat_tests))
+    ∙ ap (λ xs. p ∷ xs) (first_kept (is_named (two p q)) (p + 1) (15 - p) q (15 - q) (grind (arith, nat_tests)) (omega (arith, less, few))
+    (omega (arith, less)) (λ k l u. grind (arith, nat_tests))
     ∙ ap (λ xs. q ∷ xs) (none_kept (is_named (two p q)) (q + 1) (15 - q) (λ k l. grind (arith, nat_tests))))

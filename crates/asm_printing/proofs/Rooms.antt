@@ -16,7 +16,8 @@ pub decimal_is_short : (n : ℕ) → n < 2 ^ 64 → length (decimal n) ≤ 20
 decimal_is_short n l = length-decimal-le 20 n (lit< tt) (omega arith) l
 
 -- A hexadecimal digit more than those of the number divided by 16, or one alone.
-hex_either : (b : Bool) (n most : ℕ) → leb 16 n ≡ b → n < 2 ^ 64 → length (digits 16 false (n / 16)) ≤ most → length (digits 16 false n) ≤ suc most
+hex_either : (b : Bool) (n most : ℕ) → leb 16 n ≡ b → n < 2 ^ 64 → length (digits 16 false (n / 16)) ≤ most
+    → length (digits 16 false n) ≤ suc most
 hex_either true n most e l s =
     let d = ap length (hex_step n (leb-true 16 n e) (omega (arith, l))) in
     let both = length-append (digits 16 false (n / 16)) (digit_glyph false (n % 16) ∷ []) in

@@ -108,9 +108,11 @@ HasTarget bundle x = IfSome (displacement x) (λ disp. pos 0 ≤ℤ (pos bundle 
 -- A slot line by its target, its predicate, and the form, the completers and the operands of its instruction.
 abbrev pub line_text : ℕ → ℕ → Form → List Completer → List Token → Bool → List ℕ
 line_text target qp form completers operands stop =
-    codes "  " ++ predicate_text qp ++ mnemonic_text form completers ++ spaced (operands_text target (row_of form).items operands) ++ stop_text stop
+    codes "  " ++ predicate_text qp ++ mnemonic_text form completers ++ spaced
+    (operands_text target (row_of form).items operands) ++ stop_text stop
 
 -- The slot line of an instruction in a bundle, without its line feed.
 abbrev pub slot_text : Insn → ℕ → Bool → List ℕ
 slot_text insn bundle stop =
-    line_text (or_zero (target_of bundle insn.op)) insn.qp (syntax_of insn.op).form (syntax_of insn.op).completers (syntax_of insn.op).operands stop
+    line_text (or_zero (target_of bundle insn.op)) insn.qp (syntax_of insn.op).form (syntax_of insn.op).completers
+    (syntax_of insn.op).operands stop

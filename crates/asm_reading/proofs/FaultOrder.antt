@@ -49,7 +49,8 @@ sound plain o Last = (
 )
 
 -- A stage more, which is the last.
-and_last : (some : List (Stage LineFault)) (Last : Type 0) (e : LineFault) → IsFirstFault some e ⊎ (ArePassed some × (e ≡ fault.Form)) → ¬ Last
+and_last : (some : List (Stage LineFault)) (Last : Type 0) (e : LineFault) → IsFirstFault some e ⊎ (ArePassed some × (e ≡ fault.Form))
+    → ¬ Last
     → IsFirstFault (some ++ unless Last fault.Form ∷ []) e
 and_last [] Last e (inl found) silent = absurd found
 and_last [] Last e (inr (passed, is)) silent = inl (tt, is, silent)
@@ -71,7 +72,8 @@ err_found : (plain : Bool) (o : Option Beside) (r : Result Line LineFault) (Last
     → (if plain then r else Err fault.Char) ≡ Err e → ¬ Last → IsFirstFault (stages plain o Last) e
 err_found false o r Last e answers is silent = inl (tt, char_is e (Err fault.Char) refl is, λ h. cc)
 err_found true None r Last e answers is silent = inr (refl, inl (tt, name_is e r answers is, λ h. cc))
-err_found true (Some b) r Last e answers is silent = inr (refl, inr (refl, and_last (beside_stages b) Last e (subst (IsFound (beside_stages b)) is answers) silent))
+err_found true (Some b) r Last e answers is silent =
+    inr (refl, inr (refl, and_last (beside_stages b) Last e (subst (IsFound (beside_stages b)) is answers) silent))
 
 -- A line that is read passes the first stages.
 ok_found : (plain : Bool) (o : Option Beside) (r : Result Line LineFault) (value : Line) (Last : Type 0) (e : LineFault) → Answers o r
@@ -98,15 +100,18 @@ not_both v e r a b = cc
 
 pub fault_found : (bytes : List ℕ) (e : LineFault) → FaultOf bytes e → IsFirstFault (line_stages bytes) e
 fault_found bytes e (inl is) =
-    err_found (has_only_plain bytes) (beside_of (lexemes_of bytes)) (value_of (lexemes_of bytes)) (HasValue bytes) e (value_answers (lexemes_of bytes)) is
+    err_found (has_only_plain bytes) (beside_of (lexemes_of bytes)) (value_of (lexemes_of bytes))
+    (HasValue bytes) e (value_answers (lexemes_of bytes)) is
     (λ says. not_both says.0 e (reading_of bytes) says.1.reading is)
 fault_found bytes e (inr (value, is, unlisted, form)) =
-    ok_found (has_only_plain bytes) (beside_of (lexemes_of bytes)) (value_of (lexemes_of bytes)) value (HasValue bytes) e (value_answers (lexemes_of bytes)) is
+    ok_found (has_only_plain bytes) (beside_of (lexemes_of bytes))
+    (value_of (lexemes_of bytes)) value (HasValue bytes) e (value_answers (lexemes_of bytes)) is
     (λ says. unlisted (subst IsListedLine (same_value says.0 value (reading_of bytes) says.1.reading is) says.1.listed)) form
 
 value_passes : (bytes : List ℕ) → HasValue bytes → ArePassed (line_stages bytes)
 value_passes bytes says =
-    ok_passed (has_only_plain bytes) (beside_of (lexemes_of bytes)) (value_of (lexemes_of bytes)) says.0 (HasValue bytes) (value_answers (lexemes_of bytes)) says.1.reading says
+    ok_passed (has_only_plain bytes) (beside_of (lexemes_of bytes)) (value_of (lexemes_of bytes)) says.0 (HasValue bytes)
+    (value_answers (lexemes_of bytes)) says.1.reading says
 
 line_sound : (bytes : List ℕ) → AreSound (line_stages bytes)
 line_sound bytes = sound (has_only_plain bytes) (beside_of (lexemes_of bytes)) (HasValue bytes)

@@ -41,7 +41,8 @@ IsFound stages (Ok x) = ArePassed stages
 IsFound stages (Err e) = IsFoundFault stages e
 
 -- The later stages, after one that is passed.
-past : {A : Type 0} (s : Stage LineFault) (later : List (Stage LineFault)) (r : Result A LineFault) → s.IsPassed → IsFound later r → IsFound (s ∷ later) r
+past : {A : Type 0} (s : Stage LineFault) (later : List (Stage LineFault)) (r : Result A LineFault) → s.IsPassed → IsFound later r
+    → IsFound (s ∷ later) r
 past s later (Ok x) passed found = (passed, found)
 past s later (Err e) passed (inl found) = inl (inr (passed, found))
 past s later (Err e) passed (inr (all, is)) = inr ((passed, all), is)
@@ -57,11 +58,13 @@ all_passed stages (Ok x) passed only = passed
 all_passed stages (Err e) passed only = inr (passed, only)
 
 -- One step and then the next, which has no fault but Form.
-then_found : {A B : Type 0} (stages : List (Stage LineFault)) (r : Result A LineFault) (f : A → Result B LineFault) → IsFound stages r → ((x : A) → OnlyForm (f x)) → IsFound stages (r >>= f)
+then_found : {A B : Type 0} (stages : List (Stage LineFault)) (r : Result A LineFault) (f : A → Result B LineFault) → IsFound stages r
+    → ((x : A) → OnlyForm (f x)) → IsFound stages (r >>= f)
 then_found stages (Ok x) f found only = all_passed stages (f x) found (only x)
 then_found stages (Err e) f found only = found
 
-then_only : {A B : Type 0} (r : Result A LineFault) (f : A → Result B LineFault) → OnlyForm r → ((x : A) → OnlyForm (f x)) → OnlyForm (r >>= f)
+then_only : {A B : Type 0} (r : Result A LineFault) (f : A → Result B LineFault) → OnlyForm r → ((x : A) → OnlyForm (f x))
+    → OnlyForm (r >>= f)
 then_only (Ok x) f h k = k x
 then_only (Err e) f h k = h
 
@@ -74,7 +77,8 @@ abbrev after_stages : List Form → List Token → List (Stage LineFault)
 after_stages forms xs = after_stage (record { forms = forms; before = []; after = xs }) ∷ []
 
 -- No token is left.
-no_token : (z : Operands) (forms : List Form) (xs : List Token) → slice_get xs (right_count z forms xs) ≡ None → fault_among z forms xs ≡ fault.Form
+no_token : (z : Operands) (forms : List Form) (xs : List Token) → slice_get xs (right_count z forms xs) ≡ None
+    → fault_among z forms xs ≡ fault.Form
 no_token (Numbers z) forms xs e = rw e refl
 no_token Predicates forms xs e = rw e refl
 no_token OfForms forms xs e = rw e refl
@@ -88,14 +92,23 @@ all_right : (k n : ℕ) → k ≤ n → n ≤ k → k ≡ n
 all_right k n h l = omega (arith, h, l)
 
 -- The fault where no more tokens are right is the first wrong one's, or Form where no token is left.
-stopped_at : (forms : List Form) (xs : List Token) (o : Option Token) (e : LineFault) → slice_get xs (right_count (operands_of forms) forms xs) ≡ o
+stopped_at : (forms : List Form) (xs : List Token) (o : Option Token) (e : LineFault)
+    → slice_get xs (right_count (operands_of forms) forms xs) ≡ o
     → e ≡ fault_among (operands_of forms) forms xs → IsFoundFault (after_stages forms xs) e
 stopped_at forms xs None e none is =
-    inr ((all_right _ _ (right_within (operands_of forms) forms xs) (none_past xs _ none), tt), is ∙ no_token (operands_of forms) forms xs none)
+    inr (
+      (all_right _ _ (right_within (operands_of forms) forms xs) (none_past xs _ none), tt),
+      is ∙ no_token (operands_of forms) forms xs none,
+    )
 stopped_at forms xs (Some x) e there is =
-    inl (inl (right_count (operands_of forms) forms xs, is ∙ sym (fault_front (operands_of forms) forms xs), first_wrong forms xs _ refl (slice_get_within xs _ x there)))
+    inl (inl (
+      right_count (operands_of forms) forms xs,
+      is ∙ sym (fault_front (operands_of forms) forms xs),
+      first_wrong forms xs _ refl (slice_get_within xs _ x there),
+    ))
 
-stopped : (forms : List Form) (xs : List Token) (e : LineFault) → e ≡ fault_among (operands_of forms) forms xs → IsFoundFault (after_stages forms xs) e
+stopped : (forms : List Form) (xs : List Token) (e : LineFault) → e ≡ fault_among (operands_of forms) forms xs
+    → IsFoundFault (after_stages forms xs) e
 stopped forms xs e is = stopped_at forms xs _ e refl is
 
 -- The fault of what forms have.
@@ -113,19 +126,22 @@ if_found : {A : Type 0} (stages : List (Stage LineFault)) (b : Bool) (x : A) (e 
 if_found stages true x e passed found = passed refl
 if_found stages false x e passed found = found
 
-reach_all : (z : Operands) (forms : List Form) (xs : List Token) → z ≡ OfForms → length xs ≤ reach forms xs → right_count z forms xs ≡ length xs
+reach_all : (z : Operands) (forms : List Form) (xs : List Token) → z ≡ OfForms → length xs ≤ reach forms xs
+    → right_count z forms xs ≡ length xs
 reach_all z forms xs e h = rw e (omega (arith, h, right_within OfForms forms xs))
 
 -- The form of the operands.
 form_found : (forms : List Form) (operands xs : List Token) → operands_of forms ≡ OfForms
-    → ((f : Form) → is_spelled operands f ≡ true → length xs ≤ agreed (row_of f).items xs) → IsFound (after_stages forms xs) (read_form forms operands xs)
+    → ((f : Form) → is_spelled operands f ≡ true → length xs ≤ agreed (row_of f).items xs)
+    → IsFound (after_stages forms xs) (read_form forms operands xs)
 form_found forms operands xs by_form all =
     or_found (after_stages forms xs) (find (is_spelled operands) forms) (fault_of forms xs)
     (λ f is. (reach_all (operands_of forms) forms xs by_form (found_all (is_spelled operands) xs all forms f is), tt))
     (stopped forms xs (fault_of forms xs) (same_fault (operands_of forms) forms xs by_form))
 
 -- The numbers of a data line.
-data_found : (z : AccessSize) (forms : List Form) (xs : List Token) → operands_of forms ≡ Numbers z → IsFound (after_stages forms xs) (data_of z xs)
+data_found : (z : AccessSize) (forms : List Form) (xs : List Token) → operands_of forms ≡ Numbers z
+    → IsFound (after_stages forms xs) (data_of z xs)
 data_found z forms xs is =
     if_found (after_stages forms xs) ((agreed_data (data_field z) 0 xs == length xs) && (length xs % 2 == 1)) _ _
     (λ h. (rw is (eqb-true _ _ (left _ _ h)), tt))
@@ -134,7 +150,8 @@ data_found z forms xs is =
 -- The predicates of a relation line.
 relation_found : (forms : List Form) (xs : List Token) → operands_of forms ≡ Predicates → IsFound (after_stages forms xs) (relation_of xs)
 relation_found forms xs is =
-    if_found (after_stages forms xs) ((agreed_relation [] xs == length xs) && ((length xs % 2 == 1) && nat_le 2 (length (named_predicates xs)))) _ _
+    if_found (after_stages forms xs) ((agreed_relation [] xs == length xs)
+    && ((length xs % 2 == 1) && nat_le 2 (length (named_predicates xs)))) _ _
     (λ h. (rw is (eqb-true _ _ (left _ _ h)), tt))
     (stopped forms xs _ (rw is refl))
 
@@ -152,9 +169,11 @@ directive_value_only form.Endp after = tt
 directive_value_only form.Skip after = tt
 directive_value_only _ after = refl
 
-directive_found : (forms : List Form) (after : List KindAndText) → operands_of forms ≡ OfForms → IsFound (after_stages forms (tokens after)) (directive_of forms after)
+directive_found : (forms : List Form) (after : List KindAndText) → operands_of forms ≡ OfForms
+    → IsFound (after_stages forms (tokens after)) (directive_of forms after)
 directive_found forms after by_form =
-    then_found (after_stages forms (tokens after)) _ _ (form_found forms (tokens after) (tokens after) by_form (spelled_all (tokens after))) (λ f. directive_value_only f after)
+    then_found (after_stages forms (tokens after)) _ _ (form_found forms (tokens after) (tokens after) by_form (spelled_all (tokens after)))
+    (λ f. directive_value_only f after)
 
 slot_under_found : (qp : ℕ) (forms : List Form) (name : List ℕ) (xs : List Token) (after : List KindAndText) → operands_of forms ≡ OfForms
     → IsFound (after_stages forms xs) (slot_under qp forms name xs after)
@@ -176,13 +195,15 @@ same_predicate true [] is = refl
 same_predicate true (x ∷ xs) is = refl
 same_predicate false xs is = cc
 
-slot_found : (forms : List Form) (name : List ℕ) (before after : List KindAndText) → name_instruction forms ≡ true → operands_of forms ≡ OfForms
+slot_found : (forms : List Form) (name : List ℕ) (before after : List KindAndText) → name_instruction forms ≡ true
+    → operands_of forms ≡ OfForms
     → IsFound (beside_stages (beside forms before after)) (slot_of forms name before after)
 slot_found forms name before after is by_form =
     predicate_found (beside forms before after) (predicate_of (tokens before)) (λ qp. slot_under qp forms name (tokens after) after)
     (same_predicate (name_instruction forms) (tokens before) is) (λ qp. slot_under_found qp forms name (tokens after) after by_form)
 
-nothing_before : (instruction : Bool) (x : Token) (xs : List Token) → instruction ≡ false → predicate_fault instruction (x ∷ xs) ≡ Some fault.Form
+nothing_before : (instruction : Bool) (x : Token) (xs : List Token) → instruction ≡ false
+    → predicate_fault instruction (x ∷ xs) ≡ Some fault.Form
 nothing_before true x xs other = cc
 nothing_before false x xs other = refl
 
@@ -192,21 +213,30 @@ none_before false = refl
 
 alone_found : (forms : List Form) (before after : List KindAndText) (r : Result Line LineFault) → name_instruction forms ≡ false
     → IsFound (after_stages forms (tokens after)) r → IsFound (beside_stages (beside forms before after)) (alone before r)
-alone_found forms [] after r other found = past (before_stage (beside forms [] after)) (after_stages forms (tokens after)) r (none_before (name_instruction forms)) found
+alone_found forms [] after r other found =
+    past (before_stage (beside forms [] after)) (after_stages forms (tokens after)) r (none_before (name_instruction forms)) found
 alone_found forms (b ∷ before) after r other found = inl (inl (fault.Form, refl, nothing_before (name_instruction forms) _ _ other))
 
 -- Lines by the first of their forms.
-by_row_found : (f : Form) (fs : List Form) (name : List ℕ) (before after : List KindAndText) (b : Bool) → is_instruction f ≡ b → operands_of (f ∷ fs) ≡ OfForms
-    → IsFound (beside_stages (beside (f ∷ fs) before after)) (if b then slot_of (f ∷ fs) name before after else alone before (directive_of (f ∷ fs) after))
+by_row_found : (f : Form) (fs : List Form) (name : List ℕ) (before after : List KindAndText) (b : Bool) → is_instruction f ≡ b
+    → operands_of (f ∷ fs) ≡ OfForms
+    → IsFound (beside_stages (beside (f ∷ fs) before after)) (if b then slot_of (f ∷ fs) name before after else alone before
+    (directive_of (f ∷ fs) after))
 by_row_found f fs name before after true is by_form = slot_found (f ∷ fs) name before after is by_form
 by_row_found f fs name before after false is by_form = alone_found (f ∷ fs) before after _ is (directive_found (f ∷ fs) after by_form)
 
-formed_found : (f : Form) (fs : List Form) (name : List ℕ) (before after : List KindAndText) → IsFound (beside_stages (beside (f ∷ fs) before after)) (formed f (f ∷ fs) name before after)
-formed_found form.Data1 fs name before after = alone_found (form.Data1 ∷ fs) before after _ refl (data_found size.One (form.Data1 ∷ fs) (tokens after) refl)
-formed_found form.Data2 fs name before after = alone_found (form.Data2 ∷ fs) before after _ refl (data_found size.Two (form.Data2 ∷ fs) (tokens after) refl)
-formed_found form.Data4 fs name before after = alone_found (form.Data4 ∷ fs) before after _ refl (data_found size.Four (form.Data4 ∷ fs) (tokens after) refl)
-formed_found form.Data8 fs name before after = alone_found (form.Data8 ∷ fs) before after _ refl (data_found size.Eight (form.Data8 ∷ fs) (tokens after) refl)
-formed_found form.PredRel fs name before after = alone_found (form.PredRel ∷ fs) before after _ refl (relation_found (form.PredRel ∷ fs) (tokens after) refl)
+formed_found : (f : Form) (fs : List Form) (name : List ℕ) (before after : List KindAndText)
+    → IsFound (beside_stages (beside (f ∷ fs) before after)) (formed f (f ∷ fs) name before after)
+formed_found form.Data1 fs name before after =
+    alone_found (form.Data1 ∷ fs) before after _ refl (data_found size.One (form.Data1 ∷ fs) (tokens after) refl)
+formed_found form.Data2 fs name before after =
+    alone_found (form.Data2 ∷ fs) before after _ refl (data_found size.Two (form.Data2 ∷ fs) (tokens after) refl)
+formed_found form.Data4 fs name before after =
+    alone_found (form.Data4 ∷ fs) before after _ refl (data_found size.Four (form.Data4 ∷ fs) (tokens after) refl)
+formed_found form.Data8 fs name before after =
+    alone_found (form.Data8 ∷ fs) before after _ refl (data_found size.Eight (form.Data8 ∷ fs) (tokens after) refl)
+formed_found form.PredRel fs name before after =
+    alone_found (form.PredRel ∷ fs) before after _ refl (relation_found (form.PredRel ∷ fs) (tokens after) refl)
 formed_found f fs name before after = by_row_found f fs name before after (is_instruction f) refl refl
 
 -- A leading lexeme that names nothing is Name, and else the stages beside it find what is answered.
@@ -214,7 +244,8 @@ abbrev pub Answers : Option Beside → Result Line LineFault → Type 0
 Answers None r = r ≡ Err fault.Name
 Answers (Some b) r = IsFound (beside_stages b) r
 
-among_answers : (forms : List Form) (name : List ℕ) (before after : List KindAndText) → Answers (beside_name forms before after) (among forms name before after)
+among_answers : (forms : List Form) (name : List ℕ) (before after : List KindAndText)
+    → Answers (beside_name forms before after) (among forms name before after)
 among_answers [] name before after = refl
 among_answers (f ∷ fs) name before after = formed_found f fs name before after
 
@@ -222,12 +253,14 @@ among_answers (f ∷ fs) name before after = formed_found f fs name before after
 beside_none : (w : KindAndText) (ws : List KindAndText) → IsFoundFault (beside_stages (beside [] [] (w ∷ ws))) fault.Form
 beside_none w ws = inl (inr (refl, inl (0, refl, record { right = refl; wrong = λ e. omega (arith, e) })))
 
-marked_found : (value : Line) (before after : List KindAndText) → IsFound (beside_stages (beside [] before after)) (marked value before after)
+marked_found : (value : Line) (before after : List KindAndText)
+    → IsFound (beside_stages (beside [] before after)) (marked value before after)
 marked_found value [] [] = (refl, (refl, tt))
 marked_found value [] (w ∷ ws) = beside_none w ws
 marked_found value (b ∷ bs) after = inl (inl (fault.Form, refl, refl))
 
-opened_as_answers : (o : Option TemplateName) (before after : List KindAndText) → Answers (option_map (λ s. beside [] before after) o) (opened_as o before after)
+opened_as_answers : (o : Option TemplateName) (before after : List KindAndText)
+    → Answers (option_map (λ s. beside [] before after) o) (opened_as o before after)
 opened_as_answers None before after = refl
 opened_as_answers (Some s) before after = marked_found (line.Open s) before after
 
@@ -271,7 +304,8 @@ pub value_answers : (ws : List KindAndText) → Answers (beside_of ws) (value_of
 value_answers [] = (refl, (refl, tt))
 value_answers (w ∷ []) = led_answers (w ∷ [])
 value_answers (w ∷ x ∷ ws) =
-    elim (is_name_lexeme w && is_colon (token_of x.0 x.1)) as (λ b. Answers (if b then Some (beside [] [] ws) else beside_lead (w ∷ x ∷ ws)) (if b then label_of w.1 ws else led (w ∷ x ∷ ws))) [
+    elim (is_name_lexeme w && is_colon (token_of x.0 x.1)) as (λ b.
+    Answers (if b then Some (beside [] [] ws) else beside_lead (w ∷ x ∷ ws)) (if b then label_of w.1 ws else led (w ∷ x ∷ ws))) [
       | true ↦ label_found w.1 ws
       | false ↦ led_answers (w ∷ x ∷ ws)
     ]

@@ -47,10 +47,12 @@ none_yet : (l : ℕ) (s : Bool) → (if (0 == suc l) && s then 0 + 1 else 0) ≡
 none_yet l s = rw (eqb-zero-suc l) refl
 
 -- One item and one token.
-one_walked : (i : FormItem) (is : List FormItem) (x : Token) (xs : List Token) → agreed is xs ≡ walked is xs → agreed (i ∷ is) (x ∷ xs) ≡ walked (i ∷ is) (x ∷ xs)
+one_walked : (i : FormItem) (is : List FormItem) (x : Token) (xs : List Token) → agreed is xs ≡ walked is xs
+    → agreed (i ∷ is) (x ∷ xs) ≡ walked (i ∷ is) (x ∷ xs)
 unfolding agreed
 one_walked i is x xs h = elim (accepts i x) as (λ b.
-    (if ((if b then agreed_items is xs + 1 else 0) == suc (length is)) && is_stop_next (drop (if b then agreed_items is xs + 1 else 0) (x ∷ xs))
+    (if ((if b then agreed_items is xs + 1 else 0) == suc (length is))
+    && is_stop_next (drop (if b then agreed_items is xs + 1 else 0) (x ∷ xs))
     then (if b then agreed_items is xs + 1 else 0) + 1 else (if b then agreed_items is xs + 1 else 0))
     ≡ (if b then walked is xs + 1 else 0)) [
       | true ↦ one_more (agreed_items is xs) (length is) x xs (walked is xs) h
@@ -121,7 +123,8 @@ reach_within (f ∷ fs) xs = omega (arith, agreed_within (row_of f).items xs, re
 data_front : (f : NumberField) (at n : ℕ) (xs : List Token) → agreed_data f at (take n xs) ≡ min n (agreed_data f at xs)
 data_front f at zero xs = none_min (agreed_data f at xs)
 data_front f at (suc n) [] = omega arith
-data_front f at (suc n) (x ∷ xs) = min_more n (agreed_data f (at + 1) xs) (nat_lt at NUMBER_TOKEN_LIMIT && accepts (data_item f at) x) _ (data_front f (at + 1) n xs)
+data_front f at (suc n) (x ∷ xs) =
+    min_more n (agreed_data f (at + 1) xs) (nat_lt at NUMBER_TOKEN_LIMIT && accepts (data_item f at) x) _ (data_front f (at + 1) n xs)
 
 data_within : (f : NumberField) (at : ℕ) (xs : List Token) → agreed_data f at xs ≤ length xs
 data_within f at [] = omega arith
@@ -131,14 +134,16 @@ data_within f at (x ∷ xs) = more_at_most (nat_lt at NUMBER_TOKEN_LIMIT && acce
 relation_front : (before : List Token) (n : ℕ) (xs : List Token) → agreed_relation before (take n xs) ≡ min n (agreed_relation before xs)
 relation_front before zero xs = none_min (agreed_relation before xs)
 relation_front before (suc n) [] = omega arith
-relation_front before (suc n) (x ∷ xs) = min_more n (agreed_relation (before ++ x ∷ []) xs) (may_follow before x) _ (relation_front (before ++ x ∷ []) n xs)
+relation_front before (suc n) (x ∷ xs) =
+    min_more n (agreed_relation (before ++ x ∷ []) xs) (may_follow before x) _ (relation_front (before ++ x ∷ []) n xs)
 
 relation_within : (before xs : List Token) → agreed_relation before xs ≤ length xs
 relation_within before [] = omega arith
 relation_within before (x ∷ xs) = more_at_most (may_follow before x) _ _ (relation_within (before ++ x ∷ []) xs)
 
 -- How many tokens are right in a front: of numbers, of predicates and commas, and of the items of forms.
-right_front : (z : Operands) (forms : List Form) (n : ℕ) (xs : List Token) → right_count z forms (take n xs) ≡ min n (right_count z forms xs)
+right_front : (z : Operands) (forms : List Form) (n : ℕ) (xs : List Token)
+    → right_count z forms (take n xs) ≡ min n (right_count z forms xs)
 right_front (Numbers z) forms n xs = data_front (data_field z) 0 n xs
 right_front Predicates forms n xs = relation_front [] n xs
 right_front OfForms forms n xs = reach_front forms n xs
@@ -156,7 +161,8 @@ wants_one items n at xs p less h =
     rw same refl
 
 wants_front : (p : Form → Bool) (forms : List Form) (n at : ℕ) (xs : List Token) → at < n → reach forms xs ≤ at
-    → list_any (λ f. (agreed (row_of f).items (take n xs) == at) && p f) forms ≡ list_any (λ f. (agreed (row_of f).items xs == at) && p f) forms
+    → list_any (λ f. (agreed (row_of f).items (take n xs) == at) && p f) forms
+    ≡ list_any (λ f. (agreed (row_of f).items xs == at) && p f) forms
 wants_front p [] n at xs less h = refl
 wants_front p (f ∷ fs) n at xs less h =
     rw (wants_one (row_of f).items n at xs (p f) less (omega (arith, h)), wants_front p fs n at xs less (omega (arith, h))) refl
@@ -171,7 +177,8 @@ token_front (x ∷ xs) (suc n) (suc at) less = token_front xs n at (omega (arith
 same_fault_at : (a b c d e f : Bool) (o p : Option Token) → a ≡ b → c ≡ d → e ≡ f → o ≡ p → fault_at a c e o ≡ fault_at b d f p
 same_fault_at a b c d e f o p h k l m = rw (h, k, l, m) refl
 
-forms_fault : (forms : List Form) (n at : ℕ) (xs : List Token) → at ≡ reach forms xs → at < n → fault_of forms (take n xs) ≡ fault_of forms xs
+forms_fault : (forms : List Form) (n at : ℕ) (xs : List Token) → at ≡ reach forms xs → at < n
+    → fault_of forms (take n xs) ≡ fault_of forms xs
 forms_fault forms n at xs is less =
     let most : reach forms xs ≤ at = omega (arith, is) in
     let same : reach forms (take n xs) ≡ at = omega (arith, reach_front forms n xs, is, less) in
@@ -193,7 +200,8 @@ relation_fault_front n at xs is less =
     let same : agreed_relation [] (take n xs) ≡ at = omega (arith, relation_front [] n xs, is, less) in
     rw (same, sym is, token_front xs n at less) refl
 
-pub fault_front : (z : Operands) (forms : List Form) (xs : List Token) → fault_among z forms (take (right_count z forms xs + 1) xs) ≡ fault_among z forms xs
+pub fault_front : (z : Operands) (forms : List Form) (xs : List Token)
+    → fault_among z forms (take (right_count z forms xs + 1) xs) ≡ fault_among z forms xs
 fault_front OfForms forms xs = forms_fault forms (reach forms xs + 1) (reach forms xs) xs refl (omega arith)
 fault_front Predicates forms xs = relation_fault_front _ (agreed_relation [] xs) xs refl (omega arith)
 fault_front (Numbers z) forms xs = data_fault_front (data_field z) _ (agreed_data (data_field z) 0 xs) xs refl (omega arith)
@@ -206,10 +214,13 @@ wrong_position forms xs at is =
     let right : right_count (operands_of forms) forms (take at xs) ≡ length (take at xs) = is.right in
     let wrong : ¬ (right_count (operands_of forms) forms (take (at + 1) xs) ≡ length (take (at + 1) xs)) = is.wrong in
     let front = right_front (operands_of forms) forms at xs in
-    let more = right_front (operands_of forms) forms (at + 1) xs in
-    (omega (arith, most, right, wrong, front, more, length-take at xs, length-take (at + 1) xs), omega (arith, most, right, wrong, front, more, length-take at xs, length-take (at + 1) xs))
+    let more = right_front (operands_of forms) forms (at + 1) xs in (
+      omega (arith, most, right, wrong, front, more, length-take at xs, length-take (at + 1) xs),
+      omega (arith, most, right, wrong, front, more, length-take at xs, length-take (at + 1) xs),
+    )
 
-pub first_wrong : (forms : List Form) (xs : List Token) (at : ℕ) → at ≡ right_count (operands_of forms) forms xs → at < length xs → IsFirstWrong forms xs at
+pub first_wrong : (forms : List Form) (xs : List Token) (at : ℕ) → at ≡ right_count (operands_of forms) forms xs → at < length xs
+    → IsFirstWrong forms xs at
 first_wrong forms xs at is inside = record {
   right = omega (arith, is, inside, right_front (operands_of forms) forms at xs, length-take at xs);
   wrong = λ all. omega (arith, is, inside, all, right_front (operands_of forms) forms (at + 1) xs, length-take (at + 1) xs);
@@ -228,7 +239,8 @@ spelled_within (i ∷ is) (x ∷ xs) h =
 is_stop_some : (x y : Token) → Some x ≡ Some y → is_stop y ≡ true → is_stop x ≡ true
 is_stop_some x y e h = cc
 
-stopped_within : (items : List FormItem) (xs : List Token) (n : ℕ) (x : Token) → n + 1 ≡ length xs → slice_get xs n ≡ Some x → is_stop x ≡ true
+stopped_within : (items : List FormItem) (xs : List Token) (n : ℕ) (x : Token) → n + 1 ≡ length xs → slice_get xs n ≡ Some x
+    → is_stop x ≡ true
     → pointwise accepts items (take n xs) ≡ true → length xs ≤ walked items xs
 stopped_within items [] n x few is stop h = absurd (omega (arith, few))
 stopped_within [] (y ∷ []) zero x few is stop h = rw (is_stop_some y x is stop) (omega arith)
@@ -248,7 +260,8 @@ stop_at_end items xs (Some x) is stop h =
     let inside : length xs - 1 < length xs = slice_get_within xs (length xs - 1) x is in
     stopped_within items xs (length xs - 1) x (omega (arith, inside)) is stop h
 
-or_stop : (items : List FormItem) (xs : List Token) (b : Bool) → ends_in_stop xs ≡ b → pointwise accepts items (if b then take (length xs - 1) xs else xs) ≡ true → length xs ≤ walked items xs
+or_stop : (items : List FormItem) (xs : List Token) (b : Bool) → ends_in_stop xs ≡ b
+    → pointwise accepts items (if b then take (length xs - 1) xs else xs) ≡ true → length xs ≤ walked items xs
 or_stop items xs true is h = stop_at_end items xs (slice_get xs (length xs - 1)) refl is h
 or_stop items xs false is h = spelled_within items xs h
 
@@ -260,7 +273,8 @@ pub spelled_with_stop : (xs : List Token) (f : Form) → is_spelled (without_sto
 spelled_with_stop xs f h = rw (agreed_walked (row_of f).items xs) (or_stop (row_of f).items xs (ends_in_stop xs) refl h)
 
 -- Some form has all the tokens where one of the forms is found, whether that is the first one or one of the rest.
-found_here : (b : Bool) (f g : Form) (o : Option Form) (n a r : ℕ) → (b ≡ true → n ≤ a) → (o ≡ Some g → n ≤ r) → cond b (Some f) o ≡ Some g → n ≤ max a r
+found_here : (b : Bool) (f g : Form) (o : Option Form) (n a r : ℕ) → (b ≡ true → n ≤ a) → (o ≡ Some g → n ≤ r) → cond b (Some f) o ≡ Some g
+    → n ≤ max a r
 found_here true f g o n a r h k e = let l : n ≤ a = h refl in omega (arith, l)
 found_here false f g o n a r h k e = let l : n ≤ r = k e in omega (arith, l)
 

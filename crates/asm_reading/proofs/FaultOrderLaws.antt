@@ -72,9 +72,12 @@ before_beside false (x ∷ xs) = tt
 before_beside true (x ∷ xs) = predicate_beside (x ∷ xs)
 
 -- Only the first two stages find Char and Name.
-later_beside : (b : Beside) (Last : Type 0) (e : LineFault) → IsFirstFault (before_stage b ∷ after_stage b ∷ unless Last fault.Form ∷ []) e → IsBeside e
-later_beside b Last e (inl (f, is, found)) = subst IsBeside (sym is) (subst AreBeside found (before_beside (name_instruction b.forms) b.before))
-later_beside b Last e (inr (before, inl (at, is, found))) = subst IsBeside (sym is) (among_beside (operands_of b.forms) b.forms (take (at + 1) b.after))
+later_beside : (b : Beside) (Last : Type 0) (e : LineFault) → IsFirstFault (before_stage b ∷ after_stage b ∷ unless Last fault.Form ∷ []) e
+    → IsBeside e
+later_beside b Last e (inl (f, is, found)) =
+    subst IsBeside (sym is) (subst AreBeside found (before_beside (name_instruction b.forms) b.before))
+later_beside b Last e (inr (before, inl (at, is, found))) =
+    subst IsBeside (sym is) (among_beside (operands_of b.forms) b.forms (take (at + 1) b.after))
 later_beside b Last e (inr (before, inr (after, inl (key, is, found)))) = subst IsBeside (sym is) tt
 later_beside b Last e (inr (before, inr (after, inr (value, found)))) = absurd found
 
@@ -138,7 +141,8 @@ front_with : (xs : List Token) (x : Token) (ys : List Token) → take (suc (leng
 front_with [] x ys = refl
 front_with (y ∷ xs) x ys = ap (λ l. y ∷ l) (front_with xs x ys)
 
-pub token_decides : (bytes : List ℕ) (b : Beside) (xs rest : List Token) (x : Token) → HasBeside bytes b → fault_before b ≡ None → b.after ≡ xs ++ x ∷ rest
+pub token_decides : (bytes : List ℕ) (b : Beside) (xs rest : List Token) (x : Token) → HasBeside bytes b → fault_before b ≡ None
+    → b.after ≡ xs ++ x ∷ rest
     → AreRight b.forms xs → ¬ AreRight b.forms (xs ++ x ∷ []) → FaultOf bytes (fault_among (operands_of b.forms) b.forms (xs ++ x ∷ []))
 token_decides bytes b xs rest x has before is right wrong =
     let front : take (length xs) b.after ≡ xs = rw is (take-append_seam xs (x ∷ rest)) in
@@ -146,7 +150,8 @@ token_decides bytes b xs rest x has before is right wrong =
     beside_fault bytes b _ has (inr (before, inl (length xs, rw more refl, record { right = rw front right; wrong = rw more wrong })))
 
 -- Where no fault comes before the last stage, the line has a value or the fault Form.
-pub form_last : (bytes : List ℕ) (b : Beside) → HasBeside bytes b → fault_before b ≡ None → AreRight b.forms b.after → HasValue bytes ⊎ FaultOf bytes fault.Form
+pub form_last : (bytes : List ℕ) (b : Beside) → HasBeside bytes b → fault_before b ≡ None → AreRight b.forms b.after
+    → HasValue bytes ⊎ FaultOf bytes fault.Form
 form_last bytes b has before after = elim (line_or_fault bytes) [
   | inl says ↦ inl says
   | inr (f, is) ↦ inr (beside_fault bytes b fault.Form has (inr (before, inr (after, inl (tt, refl, no_value bytes f is)))))

@@ -27,8 +27,10 @@ one_lexeme line (w ∷ []) some few = refl
 one_lexeme line (w ∷ x ∷ ws) some few = absurd (omega (arith, few))
 
 -- The leading lexeme, what stands before it and what follows it.
-pub led_there : (line : List ℕ) (ws before after : List Lexeme) (k : ℕ) (d : Lexeme) → k < length ws → before ≡ take k ws → after ≡ drop (k + 1) ws
-    → led_by ((get_or ws k d).kind, slice_range line (get_or ws k d).start (get_or ws k d).end) (texts line before) (texts line after) ≡ led_at (texts line ws) (Some k)
+pub led_there : (line : List ℕ) (ws before after : List Lexeme) (k : ℕ) (d : Lexeme) → k < length ws → before ≡ take k ws
+    → after ≡ drop (k + 1) ws
+    → led_by ((get_or ws k d).kind, slice_range line (get_or ws k d).start (get_or ws k d).end) (texts line before) (texts line after)
+    ≡ led_at (texts line ws) (Some k)
 led_there line ws before after k d h front rest =
     let view : Lexeme → KindAndText = λ w. (w.kind, slice_range line w.start w.end) in
     let there : slice_get (texts line ws) k ≡ Some (view (get_or ws k d)) = slice_get-map view ws k ∙ rw (slice_get-get_or ws k d h) refl in
@@ -37,11 +39,13 @@ led_there line ws before after k d h front rest =
     rw (there, b, a) refl
 
 -- A line that a name leads.
-pub led_name : (k : LexemeKind) (text part : List ℕ) (before after : List KindAndText) (r : Result Line LineFault) → k ≡ kind.Name → text ≡ part → r ≡ worded text before after → r ≡ led_by (k, part) before after
+pub led_name : (k : LexemeKind) (text part : List ℕ) (before after : List KindAndText) (r : Result Line LineFault) → k ≡ kind.Name
+    → text ≡ part → r ≡ worded text before after → r ≡ led_by (k, part) before after
 led_name k text part before after r e t h = h ∙ ap (λ w. worded w before after) t ∙ ap (λ q. led_by (q, part) before after) (sym e)
 
 -- The lexemes of a line are read by their kinds and texts.
-pub read_by_text : (line : List ℕ) (ws : List Lexeme) → ws ≡ lexemes_from 0 0 line → has_only_plain line ≡ true → value_of (texts line ws) ≡ reading_of line
+pub read_by_text : (line : List ℕ) (ws : List Lexeme) → ws ≡ lexemes_from 0 0 line → has_only_plain line ≡ true
+    → value_of (texts line ws) ≡ reading_of line
 read_by_text line ws e plain = rw (e, plain) refl
 
 -- The name of the label is not among the lexemes where they end before it.
@@ -51,7 +55,8 @@ label_missing line (i ∷ is) [] few = refl
 label_missing line is (w ∷ ws) few = absurd (omega (arith, few))
 
 -- The name of the label is among the lexemes behind one that is another item's.
-pub label_later : (line : List ℕ) (is : List FormItem) (ws rest : List Lexeme) (k : ℕ) (d : FormItem) → k < length is → 1 ≤ length ws → is_label_item (get_or is k d) ≡ false → rest ≡ drop 1 ws
+pub label_later : (line : List ℕ) (is : List FormItem) (ws rest : List Lexeme) (k : ℕ) (d : FormItem) → k < length is → 1 ≤ length ws
+    → is_label_item (get_or is k d) ≡ false → rest ≡ drop 1 ws
     → label_name (drop (k + 1) is) (texts line rest) ≡ label_name (drop k is) (texts line ws)
 label_later line is [] rest k d there some other e = absurd (omega (arith, some))
 label_later line is (w ∷ ws) rest k d there some other e = rw (e, add-one, drop-cons is k d there, other) refl

@@ -38,7 +38,9 @@ no_marks (e ∷ es) = not (is_mark e.1) && no_marks es
 
 look_no_mark : (es : List (List ℕ × Token)) (name : List ℕ) → no_marks es ≡ true → some_mark (look_up es name) ≡ false
 look_no_mark [] name h = refl
-look_no_mark (e ∷ es) name h = elim (bytes_eq name e.0) as (λ b. some_mark (cond b (Some e.1) (look_up es name)) ≡ false) [ true ↦ not-true _ (left _ _ h) | false ↦ look_no_mark es name (right (not (is_mark e.1)) _ h) ]
+look_no_mark (e ∷ es) name h =
+    elim (bytes_eq name e.0) as (λ b. some_mark (cond b (Some e.1) (look_up es name)) ≡ false)
+    [ true ↦ not-true _ (left _ _ h) | false ↦ look_no_mark es name (right (not (is_mark e.1)) _ h) ]
 
 register_no_mark : (f : ℕ → Token) → ((n : ℕ) → is_mark (f n) ≡ false) → (r : Option ℕ) → some_mark (option_map f r) ≡ false
 register_no_mark f h None = refl

@@ -23,15 +23,18 @@ use Rattle.asm_reading.specs.declared.line.Line.TheVariants as line
 use Rattle.asm_reading.specs.Lines.{◌>>=◌, or_fault, KindAndText, draft_of, ends_in_stop, completers_or_none, directive_of, alone, formed, among, worded, slot_of, slot_under, predicate_of, tokens, without_stop}
 use Rattle.asm_reading.specs.SlotReading.{slot_line, is_directive_name}
 
-formed_slot : (f : Form) (forms : List Form) (name : List ℕ) (before after : List KindAndText) → is_instruction f ≡ true → formed f forms name before after ≡ slot_of forms name before after
+formed_slot : (f : Form) (forms : List Form) (name : List ℕ) (before after : List KindAndText) → is_instruction f ≡ true
+    → formed f forms name before after ≡ slot_of forms name before after
 formed_slot form.Data1 forms name before after h = cc
 formed_slot form.Data2 forms name before after h = cc
 formed_slot form.Data4 forms name before after h = cc
 formed_slot form.Data8 forms name before after h = cc
 formed_slot form.PredRel forms name before after h = cc
-formed_slot f forms name before after h = cond-true (is_instruction f) (slot_of forms name before after) (alone before (directive_of forms after)) h
+formed_slot f forms name before after h =
+    cond-true (is_instruction f) (slot_of forms name before after) (alone before (directive_of forms after)) h
 
-pub slot_first : (fs : List Form) (p : Form → Bool) (f : Form) (name : List ℕ) (before after : List KindAndText) → list_all is_instruction fs ≡ true → find p fs ≡ Some f → among fs name before after ≡ slot_of fs name before after
+pub slot_first : (fs : List Form) (p : Form → Bool) (f : Form) (name : List ℕ) (before after : List KindAndText)
+    → list_all is_instruction fs ≡ true → find p fs ≡ Some f → among fs name before after ≡ slot_of fs name before after
 slot_first [] p f name before after h e = cc
 slot_first (g ∷ gs) p f name before after h e = formed_slot g (g ∷ gs) name before after (left _ _ h)
 
@@ -58,18 +61,24 @@ named_begins : (b : Bool) (sets : List (CompleterSet × ℕ)) (rest : List ℕ) 
 named_begins true sets rest h = refl
 named_begins false sets rest h = h
 
-one_slot : (name : List ℕ) (r : FormRow) → is_directive_name name ≡ false → (is_directive_name r.stem || is_instruction r.form) ≡ true → is_named name r ≡ true → is_instruction r.form ≡ true
+one_slot : (name : List ℕ) (r : FormRow) → is_directive_name name ≡ false → (is_directive_name r.stem || is_instruction r.form) ≡ true
+    → is_named name r ≡ true → is_instruction r.form ≡ true
 one_slot name r plain known named = other (is_directive_name r.stem) refl known
   where
     other : (b : Bool) → b ≡ is_directive_name r.stem → (b || is_instruction r.form) ≡ true → is_instruction r.form ≡ true
     other false e k = k
-    other true e k = let so : is_directive_name name ≡ true = directive_so name r.stem (left _ _ (named_begins (begins name r.stem) r.sets _ named)) (sym e) in cc
+    other true e k =
+        let so : is_directive_name name ≡ true = directive_so name r.stem (left _ _ (named_begins (begins name r.stem) r.sets _ named))
+        (sym e) in cc
 
-kept_slots : (name : List ℕ) (rs : List FormRow) → is_directive_name name ≡ false → list_all (λ r. is_directive_name r.stem || is_instruction r.form) rs ≡ true → list_all is_instruction (map (λ r. r.form) (filter (is_named name) rs)) ≡ true
+kept_slots : (name : List ℕ) (rs : List FormRow) → is_directive_name name ≡ false
+    → list_all (λ r. is_directive_name r.stem || is_instruction r.form) rs ≡ true
+    → list_all is_instruction (map (λ r. r.form) (filter (is_named name) rs)) ≡ true
 kept_slots name [] plain known = refl
 kept_slots name (r ∷ rs) plain known = kept_one (is_named name r) refl (kept_slots name rs plain (right _ _ known))
   where
-    kept_one : (b : Bool) → b ≡ is_named name r → list_all is_instruction (map (λ q. q.form) (filter (is_named name) rs)) ≡ true → list_all is_instruction (map (λ q. q.form) (cond b (r ∷ filter (is_named name) rs) (filter (is_named name) rs))) ≡ true
+    kept_one : (b : Bool) → b ≡ is_named name r → list_all is_instruction (map (λ q. q.form) (filter (is_named name) rs)) ≡ true
+        → list_all is_instruction (map (λ q. q.form) (cond b (r ∷ filter (is_named name) rs) (filter (is_named name) rs))) ≡ true
     kept_one true e m = and_from _ _ (one_slot name r plain (left _ _ known) (sym e)) m
     kept_one false e m = m
 
@@ -83,17 +92,21 @@ lined (Some x) f = refl
 
 -- A form that is read makes its slot line, or has the fault that it makes none.
 pub slot_made : (qp : ℕ) (forms : List Form) (name : List ℕ) (xs : List Token) (after : List KindAndText) (f : Form) (o : Option Line)
-    → read_form forms (without_stop xs) xs ≡ Ok f → slot_line qp f (completers_or_none f name) xs after ≡ o → slot_under qp forms name xs after ≡ or_fault o fault.Form
+    → read_form forms (without_stop xs) xs ≡ Ok f → slot_line qp f (completers_or_none f name) xs after ≡ o
+    → slot_under qp forms name xs after ≡ or_fault o fault.Form
 slot_made qp forms name xs after f o read is =
-    rw read (lined (op_of f (completers_or_none f name) (taken (row_of f).items (without_stop xs))) (λ x. line.Slot (draft_of f (completers_or_none f name) qp after x) (ends_in_stop xs))
+    rw read (lined (op_of f (completers_or_none f name) (taken (row_of f).items (without_stop xs)))
+    (λ x. line.Slot (draft_of f (completers_or_none f name) qp after x) (ends_in_stop xs))
     ∙ ap (λ o. or_fault o fault.Form) is)
 
-pub found_read : (forms : List Form) (operands xs : List Token) (f : Form) → find (is_spelled operands) forms ≡ Some f → read_form forms operands xs ≡ Ok f
+pub found_read : (forms : List Form) (operands xs : List Token) (f : Form) → find (is_spelled operands) forms ≡ Some f
+    → read_form forms operands xs ≡ Ok f
 found_read forms operands xs f h = rw h refl
 
 -- A slot line whose parts are found is what the name says.
 slot_read : (name : List ℕ) (before after : List KindAndText) (qp : ℕ) (f : Form) (cs : List Completer) (value : Line)
-    → is_directive_name name ≡ false → predicate_of (tokens before) ≡ Ok qp → find (is_spelled (without_stop (tokens after))) (named_forms name) ≡ Some f
+    → is_directive_name name ≡ false → predicate_of (tokens before) ≡ Ok qp
+    → find (is_spelled (without_stop (tokens after))) (named_forms name) ≡ Some f
     → completers f name ≡ Some cs → slot_line qp f cs (tokens after) after ≡ Some value → worded name before after ≡ Ok value
 slot_read name before after qp f cs value plain guarded found named is =
     let xs = tokens after in
@@ -103,12 +116,15 @@ slot_read name before after qp f cs value plain guarded found named is =
     ∙ slot_made qp (named_forms name) name xs after f (Some value) (found_read (named_forms name) (without_stop xs) xs f found) all
 
 pub slot_if_read : (name : List ℕ) (before after : List KindAndText) (qp : ℕ) (f : Form) (cs : List Completer) (o : Option Line)
-    → is_directive_name name ≡ false → predicate_of (tokens before) ≡ Ok qp → find (is_spelled (without_stop (tokens after))) (named_forms name) ≡ Some f
+    → is_directive_name name ≡ false → predicate_of (tokens before) ≡ Ok qp
+    → find (is_spelled (without_stop (tokens after))) (named_forms name) ≡ Some f
     → completers f name ≡ Some cs → o ≡ slot_line qp f cs (tokens after) after → IfSome o (λ value. worded name before after ≡ Ok value)
 slot_if_read name before after qp f cs None plain guarded found named is = tt
-slot_if_read name before after qp f cs (Some value) plain guarded found named is = slot_read name before after qp f cs value plain guarded found named (sym is)
+slot_if_read name before after qp f cs (Some value) plain guarded found named is =
+    slot_read name before after qp f cs value plain guarded found named (sym is)
 
 -- What holds of a value that is made holds of it where it is put.
-pub put_there : {A : Type 0} (P : Line → Type 0) (r : Option A) (value : Line) → IfSome (option_map (λ x. value) r) P → IfSome r (λ x. P value)
+pub put_there : {A : Type 0} (P : Line → Type 0) (r : Option A) (value : Line) → IfSome (option_map (λ x. value) r) P
+    → IfSome r (λ x. P value)
 put_there P None value h = tt
 put_there P (Some x) value h = h

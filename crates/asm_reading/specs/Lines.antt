@@ -247,7 +247,8 @@ template_name_text template.Mfb = codes ".mfb"
 
 abbrev pub all_template_names : List TemplateName
 all_template_names =
-    template.Mii ∷ template.Mlx ∷ template.Mmi ∷ template.Mfi ∷ template.Mmf ∷ template.Mib ∷ template.Mbb ∷ template.Bbb ∷ template.Mmb ∷ template.Mfb ∷ []
+    template.Mii ∷ template.Mlx ∷ template.Mmi ∷ template.Mfi ∷ template.Mmf ∷ template.Mib ∷ template.Mbb ∷ template.Bbb ∷ template.Mmb
+    ∷ template.Mfb ∷ []
 
 -- The template name that a lexeme is.
 abbrev pub template_name_of : List ℕ → Option TemplateName

@@ -118,7 +118,8 @@ every coding width = []
 kept : (p : ℕ → Bool) (n : ℕ) (ns : List ℕ) → IsOneOf n ns → p n ≡ true → IsOneOf n (filter p ns)
 kept p n [] h e = absurd h
 kept p n (m ∷ ms) (inl s) e = rw (sym s, e) (inl refl)
-kept p n (m ∷ ms) (inr h) e = elim (p m) as (λ b. IsOneOf n (cond b (m ∷ filter p ms) (filter p ms))) [ true ↦ inr (kept p n ms h e) | false ↦ kept p n ms h e ]
+kept p n (m ∷ ms) (inr h) e =
+    elim (p m) as (λ b. IsOneOf n (cond b (m ∷ filter p ms) (filter p ms))) [ true ↦ inr (kept p n ms h e) | false ↦ kept p n ms h e ]
 
 load_hint : (n : ℕ) → n ≤ 3 → (n ≡ 2 → ⊥) → IsOneOf n (0 ∷ 1 ∷ 3 ∷ [])
 load_hint zero h d = inl refl
@@ -133,7 +134,8 @@ size_one n (inr (inl e)) = inr (inl e)
 size_one n (inr (inr (inl e))) = inr (inr (inl e))
 size_one n (inr (inr (inr e))) = inr (inr (inr (inl e)))
 
-few_of : (coding : Coding) (width : ℕ) (value : Value) → is_few coding width ≡ true → is_of_kind coding value ≡ true → Takes coding width value → IsOneOf value (every coding width)
+few_of : (coding : Coding) (width : ℕ) (value : Value) → is_few coding width ≡ true → is_of_kind coding value ≡ true
+    → Takes coding width value → IsOneOf value (every coding width)
 few_of c.Flag width (v.Flag false) h is t = inl refl
 few_of c.Flag width (v.Flag true) h is t = inr (inl refl)
 few_of c.Small width (v.Small n) h is t = one_mapped v.Small n (below (2 ^ width)) (is_below n (2 ^ width) t)
@@ -143,10 +145,12 @@ few_of c.StoreHint width (v.Small n) h is (inl e) = inl (ap v.Small e)
 few_of c.StoreHint width (v.Small n) h is (inr e) = inr (inl (ap v.Small e))
 few_of (c.Size least most) width (v.Small n) h is t =
     let sizes : IsOneOf n (1 ∷ 2 ∷ 4 ∷ 8 ∷ []) = size_one n t.0 in
-    one_mapped v.Small n _ (kept (λ m. nat_le least m && nat_le m most) n (1 ∷ 2 ∷ 4 ∷ 8 ∷ []) sizes (and_from _ _ (le-leb least n t.1) (le-leb n most t.2)))
+    one_mapped v.Small n _ (kept (λ m. nat_le least m && nat_le m most) n (1 ∷ 2 ∷ 4 ∷ 8 ∷ []) sizes
+    (and_from _ _ (le-leb least n t.1) (le-leb n most t.2)))
 few_of coding width value h is t = cc
 
-pub few : (coding : Coding) (width : ℕ) (value : Value) → is_few coding width ≡ true → Takes coding width value → IsOneOf value (every coding width)
+pub few : (coding : Coding) (width : ℕ) (value : Value) → is_few coding width ≡ true → Takes coding width value
+    → IsOneOf value (every coding width)
 few coding width value h t = few_of coding width value h (is_shaped coding width value t) t
 
 pub all_of : {A : Type 0} (p : A → Bool) (xs : List A) (x : A) → list_all p xs ≡ true → IsOneOf x xs → p x ≡ true
@@ -163,7 +167,8 @@ all_in p (y ∷ ys) x h (suc n, l, e) = all_in p ys x (right _ _ h) (n, omega (a
 abbrev pub says_values : CompleterSet → Opcode → Coding → ℕ → Bool
 says_values s x coding width =
     is_few coding width
-    && (list_all (λ value. is_some (find (λ m. is_said m.says x value) (members s))) (every coding width) && list_all (λ m. is_value m.says) (members s))
+    && (list_all (λ value. is_some (find (λ m. is_said m.says x value) (members s))) (every coding width)
+    && list_all (λ m. is_value m.says) (members s))
 
 -- A set says what the opcode is, and no value.
 abbrev pub says_opcode : CompleterSet → Opcode → Bool
@@ -183,14 +188,20 @@ pub record SaysOpcode (s : CompleterSet) (x : Opcode) : Type 0 where
   pub there : is_missing (completer_of s x (v.Pr 0)).says ≡ false
   pub says : said_value (completer_of s x (v.Pr 0)).says ≡ v.Absent
 
-pub says_value : (s : CompleterSet) (x : Opcode) (coding : Coding) (width : ℕ) (value : Value) → says_values s x coding width ≡ true → Takes coding width value → SaysValue s x value
+pub says_value : (s : CompleterSet) (x : Opcode) (coding : Coding) (width : ℕ) (value : Value) → says_values s x coding width ≡ true
+    → Takes coding width value → SaysValue s x value
 says_value s x coding width value h t =
     let p : Completer → Bool = λ m. is_said m.says x value in
     let each = left _ _ (right (is_few coding width) _ h) in
-    let some : is_some (find p (members s)) ≡ true = all_of (λ w. is_some (find (λ m. is_said m.says x w) (members s))) (every coding width) value each (few coding width value (left _ _ h) t) in
+    let some : is_some (find p (members s)) ≡ true =
+    all_of (λ w. is_some (find (λ m. is_said m.says x w) (members s)))
+    (every coding width) value each (few coding width value (left _ _ h) t) in
     let found : find p (members s) ≡ Some (completer_of s x value) = some_is (find p (members s)) _ some in
     let chosen = found_is_in p (members s) (completer_of s x value) found in
-    let is : is_value (completer_of s x value).says ≡ true = all_in (λ m. is_value m.says) (members s) (completer_of s x value) (right (list_all (λ w. is_some (find (λ m. is_said m.says x w) (members s))) (every coding width)) _ (right (is_few coding width) _ h)) chosen in
+    let is : is_value (completer_of s x value).says ≡ true =
+    all_in (λ m. is_value m.says) (members s) (completer_of s x value)
+    (right (list_all (λ w. is_some (find (λ m. is_said m.says x w) (members s))) (every coding width)) _
+    (right (is_few coding width) _ h)) chosen in
     let same = said_is (completer_of s x value).says x value is (found_passes p (members s) (completer_of s x value) found) in
     record {
       chosen = chosen;

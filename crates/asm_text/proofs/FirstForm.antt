@@ -26,8 +26,10 @@ goes_on_plain [] more h = cc
 goes_on_plain (c ∷ []) more h = cc
 goes_on_plain (c ∷ d ∷ cs) more h = not-true (is_directive_name (c ∷ d ∷ cs)) h
 
-pub named_slots : (f : Form) (cs : List Completer) → is_instruction f ≡ true → list_all is_instruction (named_forms (mnemonic_text f cs)) ≡ true
+pub named_slots : (f : Form) (cs : List Completer) → is_instruction f ≡ true
+    → list_all is_instruction (named_forms (mnemonic_text f cs)) ≡ true
 named_slots f cs h =
     let own : is_instruction (row_of f).form ≡ true = subst (λ g. is_instruction g ≡ true) (sym (form_back f)) h in
-    let known : (not (is_instruction (row_of f).form) || plain_stem (row_of f).stem) ≡ true = of_row (λ r. not (is_instruction r.form) || plain_stem r.stem) f stems_plain in
+    let known : (not (is_instruction (row_of f).form) || plain_stem (row_of f).stem) ≡ true =
+    of_row (λ r. not (is_instruction r.form) || plain_stem r.stem) f stems_plain in
     all_slots (mnemonic_text f cs) (goes_on_plain (row_of f).stem (flat_map text_of cs) (rw own at known))

@@ -104,12 +104,15 @@ StandsFor [] vs ws = Unit {0}
 StandsFor (x ∷ xs) (a ∷ vs) (b ∷ ws) = (is_few x.coding (operand_width x) ≡ true → a ≡ b) × StandsFor xs vs ws
 StandsFor (x ∷ xs) vs ws = ⊥
 
-one_stands : (x : Operand) (value : Value) (b : Bool) → is_few x.coding (operand_width x) ≡ b → IsOneOf value (every x.coding (operand_width x)) ⊎ (b ≡ false) → (w : Value) × IsOneOf w (cond b (every x.coding (operand_width x)) (v.Absent ∷ [])) × (b ≡ true → value ≡ w)
+one_stands : (x : Operand) (value : Value) (b : Bool) → is_few x.coding (operand_width x) ≡ b
+    → IsOneOf value (every x.coding (operand_width x)) ⊎ (b ≡ false)
+    → (w : Value) × IsOneOf w (cond b (every x.coding (operand_width x)) (v.Absent ∷ [])) × (b ≡ true → value ≡ w)
 one_stands x value true e (inl h) = (value, h, λ t. refl)
 one_stands x value true e (inr h) = cc
 one_stands x value false e h = (v.Absent, inl refl, λ t. cc)
 
-few_or_not : (x : Operand) (value : Value) (b : Bool) → is_few x.coding (operand_width x) ≡ b → Takes x.coding (operand_width x) value → IsOneOf value (every x.coding (operand_width x)) ⊎ (b ≡ false)
+few_or_not : (x : Operand) (value : Value) (b : Bool) → is_few x.coding (operand_width x) ≡ b → Takes x.coding (operand_width x) value
+    → IsOneOf value (every x.coding (operand_width x)) ⊎ (b ≡ false)
 few_or_not x value true e t = inl (few x.coding (operand_width x) value e t)
 few_or_not x value false e t = inr refl
 
@@ -119,11 +122,16 @@ stood_for [] [] h = ([], inl refl, tt)
 stood_for (x ∷ xs) (value ∷ vs) h =
     let b = is_few x.coding (operand_width x) in
     let one = one_stands x value b refl (few_or_not x value b refl h.0) in
-    let rest = stood_for xs vs h.1 in
-    (one.0 ∷ rest.0, one_flat (λ y. map (λ us. y ∷ us) (all_stand_ins xs)) one.0 (one.0 ∷ rest.0) (stand_ins x) one.1 (one_mapped (λ us. one.0 ∷ us) rest.0 (all_stand_ins xs) rest.1), (one.2, rest.2))
+    let rest = stood_for xs vs h.1 in (
+      one.0 ∷ rest.0,
+      one_flat (λ y. map (λ us. y ∷ us) (all_stand_ins xs)) one.0 (one.0 ∷ rest.0)
+          (stand_ins x) one.1 (one_mapped (λ us. one.0 ∷ us) rest.0 (all_stand_ins xs) rest.1),
+      (one.2, rest.2),
+    )
 stood_for xs vs h = absurd h
 
-stands_at : (xs : List Operand) (vs ws : List Value) (n : ℕ) → StandsFor xs vs ws → is_few (coding_at xs n) (width_at xs n) ≡ true → at vs n ≡ at ws n
+stands_at : (xs : List Operand) (vs ws : List Value) (n : ℕ) → StandsFor xs vs ws → is_few (coding_at xs n) (width_at xs n) ≡ true
+    → at vs n ≡ at ws n
 unfolding StandsFor
 stands_at [] vs ws n h f = cc
 stands_at (x ∷ xs) (a ∷ vs) (b ∷ ws) zero h f = h.0 f
@@ -135,7 +143,8 @@ stands_at (x ∷ xs) (a ∷ vs) [] n h f = absurd h
 abbrev pub looks_at_few : List Operand → Form → Bool
 looks_at_few os f = list_all (λ s. is_few (coding_at os s.1) (width_at os s.1)) (row_of f).fixed
 
-fixed_stands : (os : List Operand) (o : Opcode) (vs ws : List Value) (fs : List (Said × ℕ)) → StandsFor os vs ws → list_all (λ s. is_few (coding_at os s.1) (width_at os s.1)) fs ≡ true → has_fixed fs o (at vs) ≡ has_fixed fs o (at ws)
+fixed_stands : (os : List Operand) (o : Opcode) (vs ws : List Value) (fs : List (Said × ℕ)) → StandsFor os vs ws
+    → list_all (λ s. is_few (coding_at os s.1) (width_at os s.1)) fs ≡ true → has_fixed fs o (at vs) ≡ has_fixed fs o (at ws)
 fixed_stands os o vs ws [] h f = refl
 fixed_stands os o vs ws (s ∷ fs) h f =
     let here : at vs s.1 ≡ at ws s.1 = stands_at os vs ws s.1 h (left _ _ f) in
@@ -155,11 +164,13 @@ any_of p [] x h e = absurd h
 any_of p (y ∷ ys) x (inl s) e = rw (sym s, e) refl
 any_of p (y ∷ ys) x (inr h) e = elim (p y) as (λ b. (b || list_any p ys) ≡ true) [ true ↦ refl | false ↦ any_of p ys x h e ]
 
-may : (os : List Operand) (o : Opcode) (vs : List Value) (fs : List (Said × ℕ)) → AllTake os vs → list_all (λ s. is_few (coding_at os s.1) (width_at os s.1)) fs ≡ true → has_fixed fs o (at vs) ≡ true
+may : (os : List Operand) (o : Opcode) (vs : List Value) (fs : List (Said × ℕ)) → AllTake os vs
+    → list_all (λ s. is_few (coding_at os s.1) (width_at os s.1)) fs ≡ true → has_fixed fs o (at vs) ≡ true
     → list_all (λ s. list_any (λ value. is_said s.0 o value) (every (coding_at os s.1) (width_at os s.1))) fs ≡ true
 may os o vs [] t f e = refl
 may os o vs (s ∷ fs) t f e =
-    and_from _ _ (any_of (λ value. is_said s.0 o value) (every (coding_at os s.1) (width_at os s.1)) (at vs s.1) (few (coding_at os s.1) (width_at os s.1) (at vs s.1) (left _ _ f) (taken_at os vs s.1 t)) (left _ _ e))
+    and_from _ _ (any_of (λ value. is_said s.0 o value) (every (coding_at os s.1) (width_at os s.1)) (at vs s.1)
+    (few (coding_at os s.1) (width_at os s.1) (at vs s.1) (left _ _ f) (taken_at os vs s.1 t)) (left _ _ e))
     (may os o vs fs t (right _ _ f) (right _ _ e))
 
 -- What is wanted of a form of a row's opcode.
@@ -183,17 +194,23 @@ abbrev pub forms_had : List Operand → Opcode → List Form
 forms_had os q = filter (λ f. not (is_apart q) && may_have os q f) (forms_of q)
 
 abbrev pub OpcodesBack : List Row → Type 0
-OpcodesBack rs = map (λ r. map (λ f. begun (row_of f) r.opcode) (forms_had (operands r) r.opcode)) rs ≡ map (λ r. map (λ f. Some r.opcode) (forms_had (operands r) r.opcode)) rs
+OpcodesBack rs =
+    map (λ r. map (λ f. begun (row_of f) r.opcode) (forms_had (operands r) r.opcode)) rs
+    ≡ map (λ r. map (λ f. Some r.opcode) (forms_had (operands r) r.opcode)) rs
 
 kept_form : (p : Form → Bool) (f : Form) (fs : List Form) → IsOneOf f fs → p f ≡ true → IsOneOf f (filter p fs)
 kept_form p f [] h e = absurd h
 kept_form p f (g ∷ gs) (inl s) e = rw (sym s, e) (inl refl)
-kept_form p f (g ∷ gs) (inr h) e = elim (p g) as (λ b. IsOneOf f (cond b (g ∷ filter p gs) (filter p gs))) [ true ↦ inr (kept_form p f gs h e) | false ↦ kept_form p f gs h e ]
+kept_form p f (g ∷ gs) (inr h) e =
+    elim (p g) as (λ b. IsOneOf f (cond b (g ∷ filter p gs) (filter p gs)))
+    [ true ↦ inr (kept_form p f gs h e) | false ↦ kept_form p f gs h e ]
 
-found_one : (p : Form → Bool) (fs : List Form) (d : Form) → is_some (find p fs) ≡ true → IsOneOf (unwrap_or (find p fs) d) fs × (p (unwrap_or (find p fs) d) ≡ true)
+found_one : (p : Form → Bool) (fs : List Form) (d : Form) → is_some (find p fs) ≡ true
+    → IsOneOf (unwrap_or (find p fs) d) fs × (p (unwrap_or (find p fs) d) ≡ true)
 found_one p [] d h = cc
 found_one p (f ∷ fs) d h =
-    elim (p f) as (λ b. (b ≡ p f) → is_some (cond b (Some f) (find p fs)) ≡ true → IsOneOf (unwrap_or (cond b (Some f) (find p fs)) d) (f ∷ fs) × (p (unwrap_or (cond b (Some f) (find p fs)) d) ≡ true)) [
+    elim (p f) as (λ b. (b ≡ p f) → is_some (cond b (Some f) (find p fs)) ≡ true
+    → IsOneOf (unwrap_or (cond b (Some f) (find p fs)) d) (f ∷ fs) × (p (unwrap_or (cond b (Some f) (find p fs)) d) ≡ true)) [
       | true ↦ λ q k. (inl refl, sym q)
       | false ↦ λ q k. let r = found_one p fs d k in (inr r.0, r.1)
     ] refl h
@@ -222,7 +239,9 @@ taken_under_zero os i h =
     subst All (sym (values_first 0 i.op)) (under_zero os i.qp (drop 1 (operands_of 0 i.op)) (subst All (values_first i.qp i.op) h))
 
 -- Each instruction of a row that agrees with its forms is read back.
-of_opcode : (os : List Operand) (x : Op) → AllTake os (operands_of 0 x) → is_apart (opcode_of x) ≡ false → opcode_agrees os (opcode_of x) ≡ true → map (λ f. begun (row_of f) (opcode_of x)) (forms_had os (opcode_of x)) ≡ map (λ f. Some (opcode_of x)) (forms_had os (opcode_of x)) → ReadsBack x
+of_opcode : (os : List Operand) (x : Op) → AllTake os (operands_of 0 x) → is_apart (opcode_of x) ≡ false
+    → opcode_agrees os (opcode_of x) ≡ true → map (λ f. begun (row_of f) (opcode_of x)) (forms_had os (opcode_of x))
+    ≡ map (λ f. Some (opcode_of x)) (forms_had os (opcode_of x)) → ReadsBack x
 of_opcode os x t apart agreed back =
     let q = opcode_of x in
     let z = operands_of 0 x in
@@ -235,13 +254,17 @@ of_opcode os x t apart agreed back =
     let taken : AreTaken os (at z) = (ap (λ vs. at vs 0) (values_first 0 x), λ n. taken_at os z (suc n) t) in
     let stood = stood_for os z t in
     let same : find (fixed (at z)) (forms_of q) ≡ find (fixed (at stood.0)) (forms_of q) =
-    find_same (fixed (at z)) (fixed (at stood.0)) (forms_of q) (λ f k. fixed_stands os q z stood.0 (row_of f).fixed stood.2 (all_of (looks_at_few os) (forms_of q) f looks k)) in
-    let some : is_some (find (fixed (at z)) (forms_of q)) ≡ true = ap is_some same ∙ all_of (λ ws. is_some (find (fixed (at ws)) (forms_of q))) (all_stand_ins os) stood.0 had_one stood.1 in
+    find_same (fixed (at z)) (fixed (at stood.0)) (forms_of q) (λ f k.
+    fixed_stands os q z stood.0 (row_of f).fixed stood.2 (all_of (looks_at_few os) (forms_of q) f looks k)) in
+    let some : is_some (find (fixed (at z)) (forms_of q)) ≡ true =
+    ap is_some same ∙ all_of (λ ws. is_some (find (fixed (at ws)) (forms_of q))) (all_stand_ins os) stood.0 had_one stood.1 in
     let f = form_of q (at z) in
     let found = found_one (fixed (at z)) (forms_of q) form.Data some in
     let few = all_of (looks_at_few os) (forms_of q) f looks found.0 in
     let had : may_have os q f ≡ true = may os q z (row_of f).fixed t few found.1 in
-    let agree : form_agrees os q f ≡ true = implied (may_have os q f) (form_agrees os q f) had (all_of (λ g. not (may_have os q g) || form_agrees os q g) (forms_of q) f each found.0) in
+    let agree : form_agrees os q f ≡ true =
+    implied (may_have os q f) (form_agrees os q f) had (all_of (λ g. not (may_have os q g) || form_agrees os q g)
+    (forms_of q) f each found.0) in
     let own = left (agrees os q (row_of f)) _ agree in
     let own2 = right (agrees os q (row_of f)) _ agree in
     let plain = left (is_plain f) _ own2 in
@@ -249,7 +272,8 @@ of_opcode os x t apart agreed back =
     let slot = left (is_instruction f) _ own3 in
     let target = bool_is _ _ (right (is_instruction f) _ own3) in
     let begins : begun (row_of f) q ≡ Some q =
-    same_of (λ g. begun (row_of g) q) (λ g. Some q) (forms_had os q) f back (kept_form (λ g. not (is_apart q) && may_have os q g) f (forms_of q) found.0 (and_from _ _ (ap not apart) had)) in
+    same_of (λ g. begun (row_of g) q) (λ g. Some q) (forms_had os q) f back
+    (kept_form (λ g. not (is_apart q) && may_have os q g) f (forms_of q) found.0 (and_from _ _ (ap not apart) had)) in
     let own_sets = (agreement os q (row_of f) own).sets in
     let w : written q z ≡ z = as_they_are q z apart in
     record {
@@ -261,11 +285,16 @@ of_opcode os x t apart agreed back =
       op = rw w (rw (read_by os x (row_of f) own begins taken found.1) (plain_settles f _ (untargeted x) plain));
     }
 
-of_row_back : (r : Row) (i : Insn) (w : ℕ) → IsOfRow r i w → is_apart (opcode_of i.op) ≡ false → row_agrees r ≡ true → map (λ f. begun (row_of f) r.opcode) (forms_had (operands r) r.opcode) ≡ map (λ f. Some r.opcode) (forms_had (operands r) r.opcode) → ReadsBack i.op
-of_row_back r i w m apart agreed back = of_opcode (operands r) i.op (taken_under_zero (operands r) i m.listed.takes) apart (rw m.opcode at agreed) (rw m.opcode at back)
+of_row_back : (r : Row) (i : Insn) (w : ℕ) → IsOfRow r i w → is_apart (opcode_of i.op) ≡ false → row_agrees r ≡ true
+    → map (λ f. begun (row_of f) r.opcode) (forms_had (operands r) r.opcode) ≡ map (λ f. Some r.opcode) (forms_had (operands r) r.opcode)
+    → ReadsBack i.op
+of_row_back r i w m apart agreed back =
+    of_opcode (operands r) i.op (taken_under_zero (operands r) i m.listed.takes) apart (rw m.opcode at agreed) (rw m.opcode at back)
 
 -- Each instruction of a table whose rows agree with their forms is read back.
-pub listed_back : (rs : List Row) (i : Insn) → list_all row_agrees rs ≡ true → OpcodesBack rs → IsListedBy rs i → is_apart (opcode_of i.op) ≡ false → ReadsBack i.op
+pub listed_back : (rs : List Row) (i : Insn) → list_all row_agrees rs ≡ true → OpcodesBack rs → IsListedBy rs i
+    → is_apart (opcode_of i.op) ≡ false → ReadsBack i.op
 listed_back rs i h b l apart =
     of_row_back (get_or rs l.1.row_index no_row) i l.0 (l.1.row no_row) apart (all_get row_agrees rs l.1.row_index no_row l.1.inside h)
-    (same_at (λ r. map (λ f. begun (row_of f) r.opcode) (forms_had (operands r) r.opcode)) (λ r. map (λ f. Some r.opcode) (forms_had (operands r) r.opcode)) rs l.1.row_index no_row b l.1.inside)
+    (same_at (λ r. map (λ f. begun (row_of f) r.opcode) (forms_had (operands r) r.opcode))
+    (λ r. map (λ f. Some r.opcode) (forms_had (operands r) r.opcode)) rs l.1.row_index no_row b l.1.inside)

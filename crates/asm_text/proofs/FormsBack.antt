@@ -79,12 +79,15 @@ is_at y vs n m l e = elim (eqb m n) as (λ b. (b ≡ eqb m n) → at (slice_set 
   | false ↦ λ q. get_or-set_other vs n m (y n) v.Absent (λ s. let same = eq-eqb m n s in cc) ∙ e
 ] refl
 
-pub put_keeps : (y : ℕ → Value) (ns : List ℕ) (vs : List Value) (m : ℕ) → list_all (λ n. nat_lt n (length vs)) ns ≡ true → at vs m ≡ y m → at (puts y ns vs) m ≡ y m
+pub put_keeps : (y : ℕ → Value) (ns : List ℕ) (vs : List Value) (m : ℕ) → list_all (λ n. nat_lt n (length vs)) ns ≡ true → at vs m ≡ y m
+    → at (puts y ns vs) m ≡ y m
 put_keeps y [] vs m h e = e
 put_keeps y (n ∷ ns) vs m h e =
-    put_keeps y ns (slice_set vs n (y n)) m (rw (length-set vs n (y n)) (right _ _ h)) (is_at y vs n m (ltb-true n (length vs) (left _ _ h)) e)
+    put_keeps y ns (slice_set vs n (y n)) m (rw (length-set vs n (y n)) (right _ _ h))
+    (is_at y vs n m (ltb-true n (length vs) (left _ _ h)) e)
 
-pub put_sets : (y : ℕ → Value) (ns : List ℕ) (vs : List Value) (m : ℕ) → list_all (λ n. nat_lt n (length vs)) ns ≡ true → list_any (λ n. n == m) ns ≡ true → at (puts y ns vs) m ≡ y m
+pub put_sets : (y : ℕ → Value) (ns : List ℕ) (vs : List Value) (m : ℕ) → list_all (λ n. nat_lt n (length vs)) ns ≡ true
+    → list_any (λ n. n == m) ns ≡ true → at (puts y ns vs) m ≡ y m
 put_sets y [] vs m h a = cc
 put_sets y (n ∷ ns) vs m h a =
     let l = ltb-true n (length vs) (left _ _ h) in
@@ -103,7 +106,8 @@ abbrev pub suits_operand : List Operand → Kind × ℕ → Bool
 suits_operand os (kind, zero) = is_register_kind kind
 suits_operand os (kind, suc n) = is_kind kind (coding_at os (suc n)) (width_at os (suc n))
 
-register_back : (kind : Kind) (x : Opcode) (value : Value) → is_register_kind kind ≡ true → (prints kind (operand_of kind x value) ≡ true) × (operand_value kind (operand_of kind x value) ≡ v.Absent)
+register_back : (kind : Kind) (x : Opcode) (value : Value) → is_register_kind kind ≡ true
+    → (prints kind (operand_of kind x value) ≡ true) × (operand_value kind (operand_of kind x value) ≡ v.Absent)
 register_back k.Ar x value h = (refl, refl)
 register_back kind x value h = cc
 
@@ -113,9 +117,12 @@ tokens_by ks o x = map (λ s. operand_of s.0 o (x s.1)) ks
 one_back : (os : List Operand) (s : Kind × ℕ) (o : Opcode) (x : ℕ → Value) → suits_operand os s ≡ true → AreTaken os x
     → (prints s.0 (operand_of s.0 o (x s.1)) ≡ true) × (operand_value s.0 (operand_of s.0 o (x s.1)) ≡ read_values x s.1)
 one_back os (kind, zero) o x h t = register_back kind o (x 0) h
-one_back os (kind, suc n) o x h t = let b = operand_back kind o (coding_at os (suc n)) (width_at os (suc n)) (x (suc n)) h (is_shaped (coding_at os (suc n)) (width_at os (suc n)) (x (suc n)) (t.1 n)) (t.1 n) in (b.printed, b.read)
+one_back os (kind, suc n) o x h t =
+    let b = operand_back kind o (coding_at os (suc n)) (width_at os (suc n))
+    (x (suc n)) h (is_shaped (coding_at os (suc n)) (width_at os (suc n)) (x (suc n)) (t.1 n)) (t.1 n) in (b.printed, b.read)
 
-operands_put : (os : List Operand) (ks : List (Kind × ℕ)) (o : Opcode) (x : ℕ → Value) (vs : List Value) → list_all (suits_operand os) ks ≡ true → AreTaken os x
+operands_put : (os : List Operand) (ks : List (Kind × ℕ)) (o : Opcode) (x : ℕ → Value) (vs : List Value)
+    → list_all (suits_operand os) ks ≡ true → AreTaken os x
     → with_operands ks (tokens_by ks o x) vs ≡ puts (read_values x) (map (λ s. s.1) ks) vs
 operands_put os [] o x vs h t = refl
 operands_put os (s ∷ ks) o x vs h t =
@@ -134,7 +141,8 @@ fit_all (Is fixed ∷ is) xs h = fit_all is xs h
 fit_all (TakesKind kind n ∷ is) [] h = cc
 fit_all (TakesKind kind n ∷ is) (x ∷ xs) h = and_from _ _ (left _ _ h) (fit_all is xs (right _ _ h))
 
-tokens_print : (os : List Operand) (ks : List (Kind × ℕ)) (o : Opcode) (x : ℕ → Value) → list_all (suits_operand os) ks ≡ true → AreTaken os x → all_print ks (tokens_by ks o x) ≡ true
+tokens_print : (os : List Operand) (ks : List (Kind × ℕ)) (o : Opcode) (x : ℕ → Value) → list_all (suits_operand os) ks ≡ true
+    → AreTaken os x → all_print ks (tokens_by ks o x) ≡ true
 tokens_print os [] o x h t = refl
 tokens_print os (s ∷ ks) o x h t = and_from _ _ (one_back os s o x (left _ _ h) t).0 (tokens_print os ks o x (right _ _ h) t)
 
@@ -148,7 +156,8 @@ value_stays (v.Flag true) q = refl
 value_stays (v.Flag false) q = refl
 value_stays value q = refl
 
-operand_moves : (kind : Kind) (o : Opcode) (value : Value) (q : Opcode) → moving (operand_of kind o value) q ≡ cond (is_register_kind kind) (moving (t.Ar (register_of o)) q) q
+operand_moves : (kind : Kind) (o : Opcode) (value : Value) (q : Opcode)
+    → moving (operand_of kind o value) q ≡ cond (is_register_kind kind) (moving (t.Ar (register_of o)) q) q
 operand_moves k.Ar o value q = refl
 operand_moves kind o value q = value_stays value q
 
@@ -180,19 +189,24 @@ good os (set, zero) o x h t =
       there = subst (λ w. is_missing (completer_of set o w).says ≡ false) first g.there;
       says = subst (λ w. said_value (completer_of set o w).says ≡ v.Absent) first g.says;
     }
-good os (set, suc n) o x h t = let g = says_value set o (coding_at os (suc n)) (width_at os (suc n)) (x (suc n)) h (t.1 n) in record { chosen = g.chosen; there = g.there; says = g.says }
+good os (set, suc n) o x h t =
+    let g = says_value set o (coding_at os (suc n)) (width_at os (suc n)) (x (suc n)) h (t.1 n) in
+    record { chosen = g.chosen; there = g.there; says = g.says }
 
-completers_put : (os : List Operand) (ss : List (CompleterSet × ℕ)) (o : Opcode) (x : ℕ → Value) (vs : List Value) → list_all (suits_set os o) ss ≡ true → AreTaken os x
+completers_put : (os : List Operand) (ss : List (CompleterSet × ℕ)) (o : Opcode) (x : ℕ → Value) (vs : List Value)
+    → list_all (suits_set os o) ss ≡ true → AreTaken os x
     → with_completers ss (completers_with ss o x) vs ≡ puts (read_values x) (map (λ s. s.1) ss) vs
 completers_put os [] o x vs h t = refl
 completers_put os (s ∷ ss) o x vs h t =
     rw ((good os s o x (left _ _ h) t).says) (completers_put os ss o x (slice_set vs s.1 (read_values x s.1)) (right _ _ h) t)
 
-pub are_chosen : (os : List Operand) (ss : List (CompleterSet × ℕ)) (o : Opcode) (x : ℕ → Value) → list_all (suits_set os o) ss ≡ true → AreTaken os x → AreChosen ss (completers_with ss o x)
+pub are_chosen : (os : List Operand) (ss : List (CompleterSet × ℕ)) (o : Opcode) (x : ℕ → Value) → list_all (suits_set os o) ss ≡ true
+    → AreTaken os x → AreChosen ss (completers_with ss o x)
 are_chosen os [] o x h t = tt
 are_chosen os (s ∷ ss) o x h t = ((good os s o x (left _ _ h) t).chosen, are_chosen os ss o x (right _ _ h) t)
 
-pub none_missing : (os : List Operand) (ss : List (CompleterSet × ℕ)) (o : Opcode) (x : ℕ → Value) → list_all (suits_set os o) ss ≡ true → AreTaken os x → is_bare (completers_with ss o x) ≡ false
+pub none_missing : (os : List Operand) (ss : List (CompleterSet × ℕ)) (o : Opcode) (x : ℕ → Value) → list_all (suits_set os o) ss ≡ true
+    → AreTaken os x → is_bare (completers_with ss o x) ≡ false
 none_missing os [] o x h t = refl
 none_missing os (s ∷ ss) o x h t = rw ((good os s o x (left _ _ h) t).there) (none_missing os ss o x (right _ _ h) t)
 
@@ -206,11 +220,13 @@ then_same : (f g : Opcode → Option Opcode) (q : Option Opcode) → ((y : Opcod
 then_same f g None h = refl
 then_same f g (Some y) h = h y
 
-said_is_by : (os : List Operand) (ss : List (CompleterSet × ℕ)) (o : Opcode) (x : ℕ → Value) (q : Opcode) → list_all (suits_set os o) ss ≡ true → AreTaken os x → completed_by (completers_with ss o x) q ≡ said_by ss o q
+said_is_by : (os : List Operand) (ss : List (CompleterSet × ℕ)) (o : Opcode) (x : ℕ → Value) (q : Opcode)
+    → list_all (suits_set os o) ss ≡ true → AreTaken os x → completed_by (completers_with ss o x) q ≡ said_by ss o q
 unfolding said_by
 said_is_by os [] o x q h t = refl
 said_is_by os ((set, zero) ∷ ss) o x q h t =
-    rw t.0 (then_same (completed_by (completers_with ss o x)) (said_by ss o) (completed (completer_of set o (v.Pr 0)).says q) (λ y. said_is_by os ss o x y (right _ _ h) t))
+    rw t.0 (then_same (completed_by (completers_with ss o x)) (said_by ss o) (completed (completer_of set o (v.Pr 0)).says q)
+    (λ y. said_is_by os ss o x y (right _ _ h) t))
 said_is_by os ((set, suc n) ∷ ss) o x q h t =
     let g = says_value set o (coding_at os (suc n)) (width_at os (suc n)) (x (suc n)) (left _ _ h) (t.1 n) in
     rw (g.leaves q) (said_is_by os ss o x q (right _ _ h) t)
@@ -219,13 +235,16 @@ said_is_by os ((set, suc n) ∷ ss) o x q h t =
 abbrev pub suits_fixed : Said × ℕ → Bool
 suits_fixed s = is_value s.0 && not (s.1 == 0)
 
-fixed_one : (s : Said × ℕ) (o : Opcode) (x : ℕ → Value) → suits_fixed s ≡ true → is_said s.0 o (x s.1) ≡ true → said_value s.0 ≡ read_values x s.1
+fixed_one : (s : Said × ℕ) (o : Opcode) (x : ℕ → Value) → suits_fixed s ≡ true → is_said s.0 o (x s.1) ≡ true
+    → said_value s.0 ≡ read_values x s.1
 fixed_one (says, zero) o x h e = let never : false ≡ true = right (is_value says) _ h in cc
 fixed_one (says, suc n) o x h e = let same = said_is says o (x (suc n)) (left _ _ h) e in rw (sym same) (sym (value_rests says))
 
-fixed_put : (fs : List (Said × ℕ)) (o : Opcode) (x : ℕ → Value) (vs : List Value) → list_all suits_fixed fs ≡ true → has_fixed fs o x ≡ true → with_fixed fs vs ≡ puts (read_values x) (map (λ s. s.1) fs) vs
+fixed_put : (fs : List (Said × ℕ)) (o : Opcode) (x : ℕ → Value) (vs : List Value) → list_all suits_fixed fs ≡ true → has_fixed fs o x ≡ true
+    → with_fixed fs vs ≡ puts (read_values x) (map (λ s. s.1) fs) vs
 fixed_put [] o x vs h e = refl
-fixed_put (s ∷ fs) o x vs h e = rw (fixed_one s o x (left _ _ h) (left _ _ e)) (fixed_put fs o x (slice_set vs s.1 (read_values x s.1)) (right _ _ h) (right _ _ e))
+fixed_put (s ∷ fs) o x vs h e =
+    rw (fixed_one s o x (left _ _ h) (left _ _ e)) (fixed_put fs o x (slice_set vs s.1 (read_values x s.1)) (right _ _ h) (right _ _ e))
 
 -- Each number is that of a value, and each operand but the predicate has its value named.
 abbrev pub are_numbers : List ℕ → Bool
@@ -237,13 +256,15 @@ is_absent coding = false
 
 abbrev pub is_named_in : List Operand → FormRow → ℕ → Bool
 is_named_in os r m =
-    list_any (λ n. n == m) (map (λ s. s.1) r.fixed) || (list_any (λ n. n == m) (map (λ s. s.1) (form_operands r.items)) || (list_any (λ n. n == m) (map (λ s. s.1) r.sets) || is_absent (coding_at os m)))
+    list_any (λ n. n == m) (map (λ s. s.1) r.fixed) || (list_any (λ n. n == m) (map (λ s. s.1) (form_operands r.items))
+    || (list_any (λ n. n == m) (map (λ s. s.1) r.sets) || is_absent (coding_at os m)))
 
 -- THE TEST: the two rows agree.
 abbrev pub agrees : List Operand → Opcode → FormRow → Bool
 agrees os o r =
     list_all (suits_operand os) (form_operands r.items) && (list_all (suits_set os o) r.sets && (list_all suits_fixed r.fixed
-    && (are_numbers (map (λ s. s.1) (form_operands r.items)) && (are_numbers (map (λ s. s.1) r.sets) && (are_numbers (map (λ s. s.1) r.fixed)
+    && (are_numbers (map (λ s. s.1) (form_operands r.items)) && (are_numbers (map (λ s. s.1) r.sets)
+    && (are_numbers (map (λ s. s.1) r.fixed)
     && list_all (is_named_in os r) (1 ∷ 2 ∷ 3 ∷ 4 ∷ 5 ∷ 6 ∷ []))))))
 
 pub record Agreement (os : List Operand) (o : Opcode) (r : FormRow) : Type 0 where
@@ -264,7 +285,15 @@ agreement os o r h =
     let f = are_numbers (map (λ s. s.1) r.sets) in
     let g = are_numbers (map (λ s. s.1) r.fixed) in
     let h1 = right a _ h in let h2 = right b _ h1 in let h3 = right d _ h2 in let h4 = right e _ h3 in let h5 = right f _ h4 in
-    record { operands = left a _ h; sets = left b _ h1; fixed = left d _ h2; operand_numbers = left e _ h3; set_numbers = left f _ h4; fixed_numbers = left g _ h5; named = right g _ h5 }
+    record {
+      operands = left a _ h;
+      sets = left b _ h1;
+      fixed = left d _ h2;
+      operand_numbers = left e _ h3;
+      set_numbers = left f _ h4;
+      fixed_numbers = left g _ h5;
+      named = right g _ h5;
+    }
 
 put_length : (y : ℕ → Value) (ns : List ℕ) (vs : List Value) → length (puts y ns vs) ≡ length vs
 put_length y [] vs = refl
@@ -287,7 +316,8 @@ none_at (suc (suc (suc (suc (suc (suc (suc n))))))) = refl
 
 -- What the row reads at a number is what was printed of it.
 three : (y : ℕ → Value) (fs ks ss : List ℕ) (m : ℕ) (absent : Bool) → are_numbers fs ≡ true → are_numbers ks ≡ true → are_numbers ss ≡ true
-    → (list_any (λ n. n == m) fs || (list_any (λ n. n == m) ks || (list_any (λ n. n == m) ss || absent))) ≡ true → (absent ≡ true → y m ≡ v.Absent)
+    → (list_any (λ n. n == m) fs || (list_any (λ n. n == m) ks || (list_any (λ n. n == m) ss || absent))) ≡ true
+    → (absent ≡ true → y m ≡ v.Absent)
     → at (puts y ss (puts y ks (puts y fs no_values))) m ≡ y m
 three y fs ks ss m absent hf hk hs any none =
     let vf = puts y fs no_values in
@@ -296,32 +326,43 @@ three y fs ks ss m absent hf hk hs any none =
     let lk : length vk ≡ 7 = put_length y ks vf ∙ lf in
     let nk : list_all (λ n. nat_lt n (length vf)) ks ≡ true = rw lf hk in
     let ns : list_all (λ n. nat_lt n (length vk)) ss ≡ true = rw lk hs in
-    elim (list_any (λ n. n == m) fs) as (λ b. (b ≡ list_any (λ n. n == m) fs) → (b || (list_any (λ n. n == m) ks || (list_any (λ n. n == m) ss || absent))) ≡ true → at (puts y ss vk) m ≡ y m) [
+    elim (list_any (λ n. n == m) fs) as (λ b. (b ≡ list_any (λ n. n == m) fs)
+    → (b || (list_any (λ n. n == m) ks || (list_any (λ n. n == m) ss || absent))) ≡ true → at (puts y ss vk) m ≡ y m) [
       | true ↦ λ q w. put_keeps y ss vk m ns (put_keeps y ks vf m nk (put_sets y fs no_values m hf (sym q)))
-      | false ↦ λ q w. elim (list_any (λ n. n == m) ks) as (λ b. (b ≡ list_any (λ n. n == m) ks) → (b || (list_any (λ n. n == m) ss || absent)) ≡ true → at (puts y ss vk) m ≡ y m) [
-        | true ↦ λ r u. put_keeps y ss vk m ns (put_sets y ks vf m nk (sym r))
-        | false ↦ λ r u. elim (list_any (λ n. n == m) ss) as (λ b. (b ≡ list_any (λ n. n == m) ss) → (b || absent) ≡ true → at (puts y ss vk) m ≡ y m) [
-          | true ↦ λ s z. put_sets y ss vk m ns (sym s)
-          | false ↦ λ s z. put_keeps y ss vk m ns (put_keeps y ks vf m nk (put_keeps y fs no_values m hf (none_at m ∙ sym (none z))))
-        ] refl u
-      ] refl w
+      | false ↦ λ q w. elim (list_any (λ n. n == m) ks) as (λ b. (b ≡ list_any (λ n. n == m) ks)
+          → (b || (list_any (λ n. n == m) ss || absent)) ≡ true → at (puts y ss vk) m ≡ y m) [
+            | true ↦ λ r u. put_keeps y ss vk m ns (put_sets y ks vf m nk (sym r))
+            | false ↦ λ r u. elim (list_any (λ n. n == m) ss) as (λ b. (b ≡ list_any (λ n. n == m) ss) → (b || absent) ≡ true
+                → at (puts y ss vk) m ≡ y m) [
+                  | true ↦ λ s z. put_sets y ss vk m ns (sym s)
+                  | false ↦ λ s z. put_keeps y ss vk m ns (put_keeps y ks vf m nk (put_keeps y fs no_values m hf (none_at m ∙ sym (none z))))
+                ] refl u
+          ] refl w
     ] refl any
 
 absent_value : (x : ℕ → Value) (m : ℕ) → x (suc m) ≡ v.Absent → read_values x (suc m) ≡ v.Absent
 absent_value x m e = rw e refl
 
-values_put : (os : List Operand) (o : Opcode) (r : FormRow) (x : ℕ → Value) (vs : List Value) → Agreement os o r → AreTaken os x → has_fixed r.fixed o x ≡ true
+values_put : (os : List Operand) (o : Opcode) (r : FormRow) (x : ℕ → Value) (vs : List Value) → Agreement os o r → AreTaken os x
+    → has_fixed r.fixed o x ≡ true
     → values_by r (completers_with r.sets o x) (tokens_by (form_operands r.items) o x)
-    ≡ puts (read_values x) (map (λ s. s.1) r.sets) (puts (read_values x) (map (λ s. s.1) (form_operands r.items)) (puts (read_values x) (map (λ s. s.1) r.fixed) no_values))
+    ≡ puts (read_values x) (map (λ s. s.1) r.sets) (puts (read_values x) (map (λ s. s.1) (form_operands r.items))
+    (puts (read_values x) (map (λ s. s.1) r.fixed) no_values))
 values_put os o r x vs a t e =
-    rw (fixed_put r.fixed o x no_values a.fixed e, operands_put os (form_operands r.items) o x (puts (read_values x) (map (λ s. s.1) r.fixed) no_values) a.operands t)
+    rw (
+      fixed_put r.fixed o x no_values a.fixed e,
+      operands_put os (form_operands r.items) o x
+          (puts (read_values x) (map (λ s. s.1) r.fixed) no_values) a.operands t,
+    )
     (completers_put os r.sets o x _ a.sets t)
 
-value_at : (os : List Operand) (o : Opcode) (r : FormRow) (x : ℕ → Value) (m : ℕ) → Agreement os o r → AreTaken os x → has_fixed r.fixed o x ≡ true → is_named_in os r (suc m) ≡ true
+value_at : (os : List Operand) (o : Opcode) (r : FormRow) (x : ℕ → Value) (m : ℕ) → Agreement os o r → AreTaken os x
+    → has_fixed r.fixed o x ≡ true → is_named_in os r (suc m) ≡ true
     → at (values_by r (completers_with r.sets o x) (tokens_by (form_operands r.items) o x)) (suc m) ≡ resting (x (suc m))
 value_at os o r x m a t e n =
     ap (λ vs. at vs (suc m)) (values_put os o r x no_values a t e)
-    ∙ three (read_values x) (map (λ s. s.1) r.fixed) (map (λ s. s.1) (form_operands r.items)) (map (λ s. s.1) r.sets) (suc m) (is_absent (coding_at os (suc m))) a.fixed_numbers a.operand_numbers a.set_numbers n
+    ∙ three (read_values x) (map (λ s. s.1) r.fixed) (map (λ s. s.1) (form_operands r.items)) (map (λ s. s.1) r.sets) (suc m)
+    (is_absent (coding_at os (suc m))) a.fixed_numbers a.operand_numbers a.set_numbers n
     (λ z. absent_value x m (absent_is (coding_at os (suc m)) (width_at os (suc m)) (x (suc m)) z (t.1 m)))
 
 -- An operation is the same with the same six values.
@@ -341,14 +382,17 @@ rests x = refl
 unfoldable pub begun : FormRow → Opcode → Option Opcode
 begun r o = option_and_then (λ q. said_by r.sets o (moved (form_operands r.items) o q)) r.opcode
 
-begun_is : (q : Option Opcode) (f : Opcode → Op) (cs : List Completer) (xs : List Token) (g : Opcode → Option Opcode) → ((y : Opcode) → completed_by cs (moving_by xs y) ≡ g y)
+begun_is : (q : Option Opcode) (f : Opcode → Op) (cs : List Completer) (xs : List Token) (g : Opcode → Option Opcode)
+    → ((y : Opcode) → completed_by cs (moving_by xs y) ≡ g y)
     → option_and_then (λ y. option_map f (completed_by cs (moving_by xs y))) q ≡ option_map f (option_and_then g q)
 begun_is None f cs xs g h = refl
 begun_is (Some y) f cs xs g h = ap (option_map f) (h y)
 
 -- What is printed by a row that agrees is read as what was printed, but for its target.
-pub read_by : (os : List Operand) (x : Op) (r : FormRow) → agrees os (opcode_of x) r ≡ true → begun r (opcode_of x) ≡ Some (opcode_of x) → AreTaken os (at (operands_of 0 x)) → has_fixed r.fixed (opcode_of x) (at (operands_of 0 x)) ≡ true
-    → op_by r (map (λ s. completer_of s.0 (opcode_of x) (at (operands_of 0 x) s.1)) r.sets) (map (λ s. operand_of s.0 (opcode_of x) (at (operands_of 0 x) s.1)) (form_operands r.items)) ≡ Some (untargeted x)
+pub read_by : (os : List Operand) (x : Op) (r : FormRow) → agrees os (opcode_of x) r ≡ true → begun r (opcode_of x) ≡ Some (opcode_of x)
+    → AreTaken os (at (operands_of 0 x)) → has_fixed r.fixed (opcode_of x) (at (operands_of 0 x)) ≡ true
+    → op_by r (map (λ s. completer_of s.0 (opcode_of x) (at (operands_of 0 x) s.1)) r.sets)
+    (map (λ s. operand_of s.0 (opcode_of x) (at (operands_of 0 x) s.1)) (form_operands r.items)) ≡ Some (untargeted x)
 unfolding begun
 read_by os x r h b t e =
     let a = agreement os (opcode_of x) r h in
@@ -371,5 +415,7 @@ read_by os x r h b t e =
     ∙ ap Some (same_op o (at w) (λ m. resting (z m)) (each 0 n1) (each 1 n2) (each 2 n3) (each 3 n4) (each 4 n5) (each 5 n6) ∙ rests x)
 
 -- The operands of what is printed by a row that agrees fit the items.
-pub fit_by : (os : List Operand) (o : Opcode) (r : FormRow) (x : ℕ → Value) → agrees os o r ≡ true → AreTaken os x → fits r.items (map (λ s. operand_of s.0 o (x s.1)) (form_operands r.items)) ≡ true
-fit_by os o r x h t = fit_all r.items (tokens_by (form_operands r.items) o x) (tokens_print os (form_operands r.items) o x (agreement os o r h).operands t)
+pub fit_by : (os : List Operand) (o : Opcode) (r : FormRow) (x : ℕ → Value) → agrees os o r ≡ true → AreTaken os x
+    → fits r.items (map (λ s. operand_of s.0 o (x s.1)) (form_operands r.items)) ≡ true
+fit_by os o r x h t =
+    fit_all r.items (tokens_by (form_operands r.items) o x) (tokens_print os (form_operands r.items) o x (agreement os o r h).operands t)

@@ -57,9 +57,13 @@ apart (Takes kind n ∷ []) [] h e = cc
 apart (Takes kind n ∷ []) (x ∷ xs) h e = refl
 apart (Is a ∷ Is b ∷ is) xs h e = and_from _ _ (left _ _ e) (apart (Is b ∷ is) xs h (right _ _ e))
 apart (Is a ∷ Takes kind n ∷ is) [] h e = cc
-apart (Is a ∷ Takes kind n ∷ is) (x ∷ xs) h e = and_from _ _ (first_of_two (is_lexemelike (fixed_token a)) (is_lexemelike x) (left _ _ e)) (apart (Takes kind n ∷ is) (x ∷ xs) h (right _ _ e))
+apart (Is a ∷ Takes kind n ∷ is) (x ∷ xs) h e =
+    and_from _ _ (first_of_two (is_lexemelike (fixed_token a)) (is_lexemelike x) (left _ _ e))
+    (apart (Takes kind n ∷ is) (x ∷ xs) h (right _ _ e))
 apart (Takes kind n ∷ is) [] h e = cc
-apart (Takes kind n ∷ Is b ∷ is) (x ∷ xs) h e = and_from _ _ (second_of_two (is_lexemelike x) (is_lexemelike (fixed_token b)) (left _ _ e)) (apart (Is b ∷ is) xs (right _ _ h) (right _ _ e))
+apart (Takes kind n ∷ Is b ∷ is) (x ∷ xs) h e =
+    and_from _ _ (second_of_two (is_lexemelike x) (is_lexemelike (fixed_token b)) (left _ _ e))
+    (apart (Is b ∷ is) xs (right _ _ h) (right _ _ e))
 apart (Takes kind n ∷ Takes other to ∷ is) (x ∷ xs) h e = cc
 
 pub row_apart : (f : Form) (xs : List Token) → fits (row_of f).items xs ≡ true → are_apart (filled (row_of f).items xs) ≡ true
@@ -70,7 +74,8 @@ label_printed : (x : Token) → prints k.Label x ≡ true → x ≡ t.Name
 label_printed t.Name h = refl
 label_printed x h = cc
 
-label_at : (is : List FormItem) (xs : List Token) → fits is xs ≡ true → label_token is (filled is xs) ≡ cond (list_any is_label_item is) (Some t.Name) None
+label_at : (is : List FormItem) (xs : List Token) → fits is xs ≡ true
+    → label_token is (filled is xs) ≡ cond (list_any is_label_item is) (Some t.Name) None
 label_at [] xs h = refl
 label_at (Is fixed ∷ is) xs h = label_at is xs h
 label_at (Takes kind n ∷ is) [] h = cc
@@ -81,7 +86,9 @@ name_where : (d : Option ℤ) → cond (is_some d) (Some t.Name) None ≡ option
 name_where None = refl
 name_where (Some disp) = refl
 
-pub label_token_of : (f : Form) (xs : List Token) (d : Option ℤ) → fits (row_of f).items xs ≡ true → list_any is_label_item (row_of f).items ≡ is_some d → label_token (row_of f).items (filled (row_of f).items xs) ≡ option_map (λ disp. t.Name) d
+pub label_token_of : (f : Form) (xs : List Token) (d : Option ℤ) → fits (row_of f).items xs ≡ true
+    → list_any is_label_item (row_of f).items ≡ is_some d → label_token (row_of f).items (filled (row_of f).items xs)
+    ≡ option_map (λ disp. t.Name) d
 label_token_of f xs d h e = label_at (row_of f).items xs h ∙ ap (λ b. cond b (Some t.Name) None) e ∙ name_where d
 
 -- fixed tokens can be printed.
@@ -101,8 +108,10 @@ operand_printed (k.Number f) (t.Number s m) h r = r
 operand_printed k.Label t.Name h r = tt
 operand_printed kind x h r = cc
 
-pub all_printed : (is : List FormItem) (xs : List Token) → fits is xs ≡ true → AllByRecursion IsTokenInRange xs → AllByRecursion IsPrinted (filled is xs)
+pub all_printed : (is : List FormItem) (xs : List Token) → fits is xs ≡ true → AllByRecursion IsTokenInRange xs
+    → AllByRecursion IsPrinted (filled is xs)
 all_printed [] xs h r = tt
 all_printed (Is fixed ∷ is) xs h r = (fixed_printed fixed, all_printed is xs h r)
 all_printed (Takes kind n ∷ is) [] h r = tt
-all_printed (Takes kind n ∷ is) (x ∷ xs) h r = (operand_printed kind x (left (prints kind x) _ h) r.0, all_printed is xs (right (prints kind x) _ h) r.1)
+all_printed (Takes kind n ∷ is) (x ∷ xs) h r =
+    (operand_printed kind x (left (prints kind x) _ h) r.0, all_printed is xs (right (prints kind x) _ h) r.1)

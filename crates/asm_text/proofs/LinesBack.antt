@@ -16,13 +16,16 @@ use Rattle.asm_text.proofs.ReadsBack.{reads_back}
 use Rattle.asm_text.proofs.SlotLines.{slot_line_back}
 use Rattle.asm_text.proofs.Untargeted.{still_listed}
 
-pub line_back : (i : Insn) (bundle : ℕ) (stop : Bool) → IsListed i → bundle < 2 ^ 32 → LineOf (slot_text i bundle stop) (printed_line i bundle stop)
+pub line_back : (i : Insn) (bundle : ℕ) (stop : Bool) → IsListed i → bundle < 2 ^ 32
+    → LineOf (slot_text i bundle stop) (printed_line i bundle stop)
 line_back i bundle stop listed low =
     let ranges = ranges_of_listed i listed in
     let back = reads_back i.qp i.op listed ranges in
     let ready = printed i listed in
     record {
-      reading = slot_line_back i bundle stop back (all_printed (items_of i.op) (operands_of i.op) back.fits ready.1) ready.0 (target_is_near bundle i.op low ranges);
+      reading =
+          slot_line_back i bundle stop back (all_printed (items_of i.op) (operands_of i.op) back.fits ready.1) ready.0
+          (target_is_near bundle i.op low ranges);
       listed = still_listed i listed;
     }
 
@@ -32,4 +35,5 @@ line_short i bundle stop listed low =
     let ranges = ranges_of_listed i listed in
     let back = reads_back i.qp i.op listed ranges in
     let ready = printed i listed in
-    slot_line_is_short i bundle stop back.choice back.fits (all_printed (items_of i.op) (operands_of i.op) back.fits ready.1) ready.0 (target_is_near bundle i.op low ranges)
+    slot_line_is_short i bundle stop back.choice back.fits (all_printed (items_of i.op) (operands_of i.op) back.fits ready.1) ready.0
+    (target_is_near bundle i.op low ranges)

@@ -62,10 +62,12 @@ pub mnemonic_begins : (f : Form) (cs : List Completer) → begins_name (mnemonic
 mnemonic_begins f cs = begins_both (row_of f).stem (flat_map text_of cs) (stem_begins f)
 
 -- A name before an end is one word.
-pub name_cut : (n cs : List ℕ) → begins_name n ≡ true → list_all is_name_byte n ≡ true → is_end cs ≡ true → lexed 0 (n ++ cs) ≡ (kind.Name, n) ∷ lexed 0 cs
+pub name_cut : (n cs : List ℕ) → begins_name n ≡ true → list_all is_name_byte n ≡ true → is_end cs ≡ true
+    → lexed 0 (n ++ cs) ≡ (kind.Name, n) ∷ lexed 0 cs
 name_cut [] cs b h e = cc
 name_cut (c ∷ n) cs b h e = name_lexed c n cs (left _ _ b) (not-true _ (right (is_name_byte c) _ b)) (right (is_name_byte c) _ h) e
 
 -- A mnemonic before an end is one word.
-pub mnemonic_lexed : (f : Form) (completers : List Completer) (cs : List ℕ) → is_end cs ≡ true → lexed 0 (mnemonic_text f completers ++ cs) ≡ (kind.Name, mnemonic_text f completers) ∷ lexed 0 cs
+pub mnemonic_lexed : (f : Form) (completers : List Completer) (cs : List ℕ) → is_end cs ≡ true
+    → lexed 0 (mnemonic_text f completers ++ cs) ≡ (kind.Name, mnemonic_text f completers) ∷ lexed 0 cs
 mnemonic_lexed f completers cs e = name_cut (mnemonic_text f completers) cs (mnemonic_begins f completers) (mnemonic_bytes f completers) e

@@ -100,11 +100,13 @@ label_is_name n l =
     rw (b, e) refl
 
 -- A letter and a number are one word.
-numbered : (c n : ℕ) (cs : List ℕ) → is_name_byte c ≡ true → is_digit_byte c ≡ false → n < 2 ^ 64 → is_end cs ≡ true → lexed 0 (c ∷ decimal n ++ cs) ≡ (kind.Name, c ∷ decimal n) ∷ lexed 0 cs
+numbered : (c n : ℕ) (cs : List ℕ) → is_name_byte c ≡ true → is_digit_byte c ≡ false → n < 2 ^ 64 → is_end cs ≡ true
+    → lexed 0 (c ∷ decimal n ++ cs) ≡ (kind.Name, c ∷ decimal n) ∷ lexed 0 cs
 numbered c n cs a d l e = name_lexed c (decimal n) cs a d (decimal_is_name_bytes n l) e
 
 -- An operand's text before anything, or before an end where it would run on, is one word.
-one_lexed : (target : ℕ) (hex : Bool) (x : Token) (cs : List ℕ) → target < 2 ^ 34 → IsPrinted x → (is_lexemelike x ≡ true → is_end cs ≡ true)
+one_lexed : (target : ℕ) (hex : Bool) (x : Token) (cs : List ℕ) → target < 2 ^ 34 → IsPrinted x
+    → (is_lexemelike x ≡ true → is_end cs ≡ true)
     → lexed 0 (token_text target hex x ++ cs) ≡ (lexeme_kind_of x, token_text target hex x) ∷ lexed 0 cs
 one_lexed target hex (t.Gr n) cs l p e = numbered 114 n cs refl refl (omega arith) (e refl)
 one_lexed target hex (t.Pr n) cs l p e = numbered 112 n cs refl refl (omega arith) (e refl)
@@ -128,7 +130,8 @@ one_lexed target hex t.CloseBracket cs l p e = refl
 one_lexed target hex x cs l p e = absurd p
 
 -- The word of an operand's text may be read as the operand.
-one_reads : (target : ℕ) (hex : Bool) (x : Token) → target < 2 ^ 34 → IsPrinted x → token_of (lexeme_kind_of x) (token_text target hex x) ≡ x
+one_reads : (target : ℕ) (hex : Bool) (x : Token) → target < 2 ^ 34 → IsPrinted x
+    → token_of (lexeme_kind_of x) (token_text target hex x) ≡ x
 one_reads target hex (t.Gr n) l p = gr_reads n p
 one_reads target hex (t.Pr n) l p = pr_reads n p
 one_reads target hex (t.Br n) l p = br_reads n p
@@ -166,13 +169,17 @@ one_plain target true (t.Number false m) l p = hex_is_plain m p
 one_plain target true (t.Number true m) l p = hex_is_plain m p
 one_plain target hex x l p = refl
 
-pub operands_plain : (target : ℕ) (is : List FormItem) (xs : List Token) → target < 2 ^ 34 → AllByRecursion IsPrinted xs → has_only_plain (tokens_text target is xs) ≡ true
+pub operands_plain : (target : ℕ) (is : List FormItem) (xs : List Token) → target < 2 ^ 34 → AllByRecursion IsPrinted xs
+    → has_only_plain (tokens_text target is xs) ≡ true
 operands_plain target [] xs l p = refl
 operands_plain target (i ∷ is) [] l p = refl
-operands_plain target (i ∷ is) (x ∷ xs) l p = both_plain (token_text target (item_hex i) x) (tokens_text target is xs) (one_plain target (item_hex i) x l p.0) (operands_plain target is xs l p.1)
+operands_plain target (i ∷ is) (x ∷ xs) l p =
+    both_plain (token_text target (item_hex i) x) (tokens_text target is xs) (one_plain target (item_hex i) x l p.0)
+    (operands_plain target is xs l p.1)
 
 -- A fixed token ends what stands before it.
-fixed_ends : (target : ℕ) (hex : Bool) (x : Token) (cs : List ℕ) → IsPrinted x → is_lexemelike x ≡ false → is_end (token_text target hex x ++ cs) ≡ true
+fixed_ends : (target : ℕ) (hex : Bool) (x : Token) (cs : List ℕ) → IsPrinted x → is_lexemelike x ≡ false
+    → is_end (token_text target hex x ++ cs) ≡ true
 fixed_ends target hex t.Equals cs p w = refl
 fixed_ends target hex t.Comma cs p w = refl
 fixed_ends target hex t.OpenBracket cs p w = refl
@@ -193,13 +200,16 @@ second true true e h = sym h
 second true false e h = refl
 second false b e h = cc
 
-end_after : (target : ℕ) (is : List FormItem) (x : Token) (xs : List Token) (cs : List ℕ) → length is ≡ length xs → AllByRecursion IsPrinted xs → are_apart (x ∷ xs) ≡ true → is_lexemelike x ≡ true → is_end cs ≡ true
+end_after : (target : ℕ) (is : List FormItem) (x : Token) (xs : List Token) (cs : List ℕ) → length is ≡ length xs
+    → AllByRecursion IsPrinted xs → are_apart (x ∷ xs) ≡ true → is_lexemelike x ≡ true → is_end cs ≡ true
     → is_end (tokens_text target is xs ++ cs) ≡ true
 end_after target [] x [] cs n p a w e = e
 end_after target [] x (y ∷ ys) cs n p a w e = cc
 end_after target (i ∷ is) x [] cs n p a w e = cc
 end_after target (i ∷ is) x (y ∷ ys) cs n p a w e =
-    rw (append_assoc (token_text target (item_hex i) y) (tokens_text target is ys) cs) (fixed_ends target (item_hex i) y (tokens_text target is ys ++ cs) p.0 (second (is_lexemelike x) (is_lexemelike y) w (left _ (are_apart (y ∷ ys)) a)))
+    rw (append_assoc (token_text target (item_hex i) y) (tokens_text target is ys) cs)
+    (fixed_ends target (item_hex i) y (tokens_text target is ys ++ cs) p.0
+    (second (is_lexemelike x) (is_lexemelike y) w (left _ (are_apart (y ∷ ys)) a)))
 
 apart_tail : (x : Token) (xs : List Token) → are_apart (x ∷ xs) ≡ true → are_apart xs ≡ true
 apart_tail x [] a = refl
@@ -209,7 +219,8 @@ same_tail : (m n : ℕ) → suc m ≡ suc n → m ≡ n
 same_tail m n h = cc
 
 -- The text of the operands before an end is cut into a word for each operand.
-pub operands_lexed : (target : ℕ) (is : List FormItem) (xs : List Token) (cs : List ℕ) → target < 2 ^ 34 → length is ≡ length xs → AllByRecursion IsPrinted xs → are_apart xs ≡ true → is_end cs ≡ true
+pub operands_lexed : (target : ℕ) (is : List FormItem) (xs : List Token) (cs : List ℕ) → target < 2 ^ 34 → length is ≡ length xs
+    → AllByRecursion IsPrinted xs → are_apart xs ≡ true → is_end cs ≡ true
     → lexed 0 (tokens_text target is xs ++ cs) ≡ lexemes_of target is xs ++ lexed 0 cs
 operands_lexed target [] [] cs l n p a e = refl
 operands_lexed target [] (x ∷ xs) cs l n p a e = cc
@@ -221,45 +232,58 @@ operands_lexed target (i ∷ is) (x ∷ xs) cs l n p a e =
     ∙ ap (λ ws. (lexeme_kind_of x, token_text target (item_hex i) x) ∷ ws) (operands_lexed target is xs cs l m p.1 (apart_tail x xs a) e))
 
 -- What these words may be read as.
-pub lexemes_read : (target : ℕ) (is : List FormItem) (xs : List Token) (ws : List KindAndText) → target < 2 ^ 34 → length is ≡ length xs → AllByRecursion IsPrinted xs → tokens (lexemes_of target is xs ++ ws) ≡ xs ++ tokens ws
+pub lexemes_read : (target : ℕ) (is : List FormItem) (xs : List Token) (ws : List KindAndText) → target < 2 ^ 34 → length is ≡ length xs
+    → AllByRecursion IsPrinted xs → tokens (lexemes_of target is xs ++ ws) ≡ xs ++ tokens ws
 lexemes_read target [] [] ws l n p = refl
 lexemes_read target [] (x ∷ xs) ws l n p = cc
 lexemes_read target (i ∷ is) [] ws l n p = cc
 lexemes_read target (i ∷ is) (x ∷ xs) ws l n p =
-    ap (λ y. y ∷ tokens (lexemes_of target is xs ++ ws)) (one_reads target (item_hex i) x l p.0) ∙ ap (λ ys. x ∷ ys) (lexemes_read target is xs ws l (same_tail _ _ n) p.1)
+    ap (λ y. y ∷ tokens (lexemes_of target is xs ++ ws)) (one_reads target (item_hex i) x l p.0)
+    ∙ ap (λ ys. x ∷ ys) (lexemes_read target is xs ws l (same_tail _ _ n) p.1)
 
 -- The text of the operands before an end may be read as those operands.
-pub operands_back : (target : ℕ) (is : List FormItem) (xs : List Token) (cs : List ℕ) → target < 2 ^ 34 → length is ≡ length xs → AllByRecursion IsPrinted xs → are_apart xs ≡ true → is_end cs ≡ true
+pub operands_back : (target : ℕ) (is : List FormItem) (xs : List Token) (cs : List ℕ) → target < 2 ^ 34 → length is ≡ length xs
+    → AllByRecursion IsPrinted xs → are_apart xs ≡ true → is_end cs ≡ true
     → tokens (lexed 0 (tokens_text target is xs ++ cs)) ≡ xs ++ tokens (lexed 0 cs)
-operands_back target is xs cs l n p a e = ap tokens (operands_lexed target is xs cs l n p a e) ∙ lexemes_read target is xs (lexed 0 cs) l n p
+operands_back target is xs cs l n p a e =
+    ap tokens (operands_lexed target is xs cs l n p a e) ∙ lexemes_read target is xs (lexed 0 cs) l n p
 
-name_at : (target : ℕ) (hex : Bool) (x : Token) → target < 2 ^ 34 → x ≡ t.Name → name_of (token_text target hex x) ≡ Some (label_text target)
+name_at : (target : ℕ) (hex : Bool) (x : Token) → target < 2 ^ 34 → x ≡ t.Name
+    → name_of (token_text target hex x) ≡ Some (label_text target)
 name_at target hex x l e = rw e (label_is_name target l)
 
-lexemes_name : (target : ℕ) (is : List FormItem) (xs : List Token) (ws : List KindAndText) → target < 2 ^ 34 → label_token is xs ≡ Some t.Name → label_name is (lexemes_of target is xs ++ ws) ≡ Some (label_text target)
+lexemes_name : (target : ℕ) (is : List FormItem) (xs : List Token) (ws : List KindAndText) → target < 2 ^ 34
+    → label_token is xs ≡ Some t.Name → label_name is (lexemes_of target is xs ++ ws) ≡ Some (label_text target)
 lexemes_name target [] xs ws l h = cc
 lexemes_name target (i ∷ is) [] ws l h = cc
 lexemes_name target (i ∷ is) (x ∷ xs) ws l h =
-    elim (is_label_item i) as (λ b. cond b (Some x) (label_token is xs) ≡ Some t.Name → cond b (name_of (token_text target (item_hex i) x)) (label_name is (lexemes_of target is xs ++ ws)) ≡ Some (label_text target)) [
+    elim (is_label_item i) as (λ b. cond b (Some x) (label_token is xs) ≡ Some t.Name
+    → cond b (name_of (token_text target (item_hex i) x)) (label_name is (lexemes_of target is xs ++ ws)) ≡ Some (label_text target)) [
       | true ↦ λ k. name_at target (item_hex i) x l (same_Some x t.Name k)
       | false ↦ λ k. lexemes_name target is xs ws l k
     ] h
 
-lexemes_no_name : (target : ℕ) (is : List FormItem) (xs : List Token) (ws : List KindAndText) → length is ≡ length xs → label_token is xs ≡ None → label_name is (lexemes_of target is xs ++ ws) ≡ None
+lexemes_no_name : (target : ℕ) (is : List FormItem) (xs : List Token) (ws : List KindAndText) → length is ≡ length xs
+    → label_token is xs ≡ None → label_name is (lexemes_of target is xs ++ ws) ≡ None
 lexemes_no_name target [] xs ws n h = refl
 lexemes_no_name target (i ∷ is) [] ws n h = cc
 lexemes_no_name target (i ∷ is) (x ∷ xs) ws n h =
-    elim (is_label_item i) as (λ b. cond b (Some x) (label_token is xs) ≡ None → cond b (name_of (token_text target (item_hex i) x)) (label_name is (lexemes_of target is xs ++ ws)) ≡ None) [
+    elim (is_label_item i) as (λ b. cond b (Some x) (label_token is xs) ≡ None
+    → cond b (name_of (token_text target (item_hex i) x)) (label_name is (lexemes_of target is xs ++ ws)) ≡ None) [
       | true ↦ λ k. cc
       | false ↦ λ k. lexemes_no_name target is xs ws (same_tail _ _ n) k
     ] h
 
 -- Where a name is printed at the position of the label, the name of the line is the label of the target.
-pub label_found : (target : ℕ) (is : List FormItem) (xs : List Token) (cs : List ℕ) → target < 2 ^ 34 → length is ≡ length xs → AllByRecursion IsPrinted xs → are_apart xs ≡ true → is_end cs ≡ true → label_token is xs ≡ Some t.Name
+pub label_found : (target : ℕ) (is : List FormItem) (xs : List Token) (cs : List ℕ) → target < 2 ^ 34 → length is ≡ length xs
+    → AllByRecursion IsPrinted xs → are_apart xs ≡ true → is_end cs ≡ true → label_token is xs ≡ Some t.Name
     → label_name is (lexed 0 (tokens_text target is xs ++ cs)) ≡ Some (label_text target)
-label_found target is xs cs l n p a e h = ap (label_name is) (operands_lexed target is xs cs l n p a e) ∙ lexemes_name target is xs (lexed 0 cs) l h
+label_found target is xs cs l n p a e h =
+    ap (label_name is) (operands_lexed target is xs cs l n p a e) ∙ lexemes_name target is xs (lexed 0 cs) l h
 
 -- Where there is no position of a label, the line has no name.
-pub label_missing : (target : ℕ) (is : List FormItem) (xs : List Token) (cs : List ℕ) → target < 2 ^ 34 → length is ≡ length xs → AllByRecursion IsPrinted xs → are_apart xs ≡ true → is_end cs ≡ true → label_token is xs ≡ None
+pub label_missing : (target : ℕ) (is : List FormItem) (xs : List Token) (cs : List ℕ) → target < 2 ^ 34 → length is ≡ length xs
+    → AllByRecursion IsPrinted xs → are_apart xs ≡ true → is_end cs ≡ true → label_token is xs ≡ None
     → label_name is (lexed 0 (tokens_text target is xs ++ cs)) ≡ None
-label_missing target is xs cs l n p a e h = ap (label_name is) (operands_lexed target is xs cs l n p a e) ∙ lexemes_no_name target is xs (lexed 0 cs) n h
+label_missing target is xs cs l n p a e h =
+    ap (label_name is) (operands_lexed target is xs cs l n p a e) ∙ lexemes_no_name target is xs (lexed 0 cs) n h

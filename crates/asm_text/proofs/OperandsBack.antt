@@ -93,11 +93,15 @@ mask_back m l e =
     let s : m % 131072 ≡ m = mod-eq_of_lt l in
     rw (s, e) (omega arith)
 
-long_is : (field : NumberField) (width : ℕ) (z : ℤ) → FitsSigned width z → 2 ^ (width - 1) < 2 ^ 63 → has_room field (negative z) (unsigned_abs z) ≡ true → number_value field (negative z) (unsigned_abs z) ≡ v.Signed (long (negative z) (unsigned_abs z))
+long_is : (field : NumberField) (width : ℕ) (z : ℤ) → FitsSigned width z → 2 ^ (width - 1) < 2 ^ 63
+    → has_room field (negative z) (unsigned_abs z) ≡ true → number_value field (negative z) (unsigned_abs z)
+    ≡ v.Signed (long (negative z) (unsigned_abs z))
     → IsBack (k.Number field) (number z) (v.Signed z)
 long_is field width z h l room e = record { printed = room; read = rw (e, long_back width z h l) refl }
 
-short_is : (field : NumberField) (most : ℕ) (z : ℤ) → unsigned_abs z ≤ most → most < 2 ^ 15 → has_room field (negative z) (unsigned_abs z) ≡ true → number_value field (negative z) (unsigned_abs z) ≡ v.Short (short (negative z) (unsigned_abs z))
+short_is : (field : NumberField) (most : ℕ) (z : ℤ) → unsigned_abs z ≤ most → most < 2 ^ 15
+    → has_room field (negative z) (unsigned_abs z) ≡ true → number_value field (negative z) (unsigned_abs z)
+    ≡ v.Short (short (negative z) (unsigned_abs z))
     → IsBack (k.Number field) (number z) (v.Short z)
 short_is field most z h l room e = record { printed = room; read = rw (e, short_back z most h l) refl }
 
@@ -105,29 +109,62 @@ small_is : (n : ℕ) → n < 256 → ltb n 256 ≡ true
 small_is n h = le-leb (suc n) 256 h
 
 -- A number of a field.
-number_back : (field : NumberField) (coding : Coding) (width : ℕ) (value : Value) → is_field field coding width ≡ true → is_of_kind coding value ≡ true → Takes coding width value → IsBack (k.Number field) (value_token value) value
-number_back f.Imm8 c.Signed width (v.Signed z) h is t = let e = eqb-true width 8 h in let s : FitsSigned 8 z = rw e at t in long_is f.Imm8 8 z s (lit< tt) (has_imm8 z s) refl
-number_back f.Imm14 c.Signed width (v.Signed z) h is t = let e = eqb-true width 14 h in let s : FitsSigned 14 z = rw e at t in long_is f.Imm14 14 z s (lit< tt) (has_imm14 z s) refl
-number_back f.Imm22 c.Signed width (v.Signed z) h is t = let e = eqb-true width 22 h in let s : FitsSigned 22 z = rw e at t in long_is f.Imm22 22 z s (lit< tt) (has_imm22 z s) refl
+number_back : (field : NumberField) (coding : Coding) (width : ℕ) (value : Value) → is_field field coding width ≡ true
+    → is_of_kind coding value ≡ true → Takes coding width value → IsBack (k.Number field) (value_token value) value
+number_back f.Imm8 c.Signed width (v.Signed z) h is t =
+    let e = eqb-true width 8 h in let s : FitsSigned 8 z = rw e at t in long_is f.Imm8 8 z s (lit< tt) (has_imm8 z s) refl
+number_back f.Imm14 c.Signed width (v.Signed z) h is t =
+    let e = eqb-true width 14 h in let s : FitsSigned 14 z = rw e at t in long_is f.Imm14 14 z s (lit< tt) (has_imm14 z s) refl
+number_back f.Imm22 c.Signed width (v.Signed z) h is t =
+    let e = eqb-true width 22 h in let s : FitsSigned 22 z = rw e at t in long_is f.Imm22 22 z s (lit< tt) (has_imm22 z s) refl
 number_back f.RotatingMask c.RotatingMask width (v.Signed z) h is t =
-    let e = eqb-true width 28 h in let s : FitsSigned 44 z × (twos 44 z % 65536 ≡ 0) = rw e at t in long_is f.RotatingMask 44 z s.0 (lit< tt) (has_rotating_mask z s.0 (omega (arith, s.1))) refl
-number_back f.Imm9 c.Short width (v.Short z) h is t = let e = eqb-true width 9 h in let s : FitsSigned 9 z = rw e at t in short_is f.Imm9 256 z (magnitude_within 9 z s) (lit< tt) (has_imm9 z s) refl
-number_back f.Tag c.Short width (v.Short z) h is t = let e = eqb-true width 9 h in let s : FitsSigned 9 z = rw e at t in short_is f.Tag 256 z (magnitude_within 9 z s) (lit< tt) (has_tag z s) refl
-number_back f.Increment c.Increment width (v.Short z) h is t = short_is f.Increment 16 z (increment_within z t) (lit< tt) (has_increment z t) refl
-number_back f.Imm21 c.Wide width (v.Wide n) h is t = let e = eqb-true width 21 h in let s : n < 2 ^ 21 = rw e at t in record { printed = le-leb n 2097151 (omega (arith, s)); read = refl }
+    let e =
+    eqb-true width 28 h in let s : FitsSigned 44 z × (twos 44 z % 65536 ≡ 0) =
+    rw e at t in long_is f.RotatingMask 44 z s.0 (lit< tt) (has_rotating_mask z s.0 (omega (arith, s.1))) refl
+number_back f.Imm9 c.Short width (v.Short z) h is t =
+    let e = eqb-true width 9 h in let s : FitsSigned 9 z = rw e at t in
+    short_is f.Imm9 256 z (magnitude_within 9 z s) (lit< tt) (has_imm9 z s) refl
+number_back f.Tag c.Short width (v.Short z) h is t =
+    let e = eqb-true width 9 h in let s : FitsSigned 9 z = rw e at t in
+    short_is f.Tag 256 z (magnitude_within 9 z s) (lit< tt) (has_tag z s) refl
+number_back f.Increment c.Increment width (v.Short z) h is t =
+    short_is f.Increment 16 z (increment_within z t) (lit< tt) (has_increment z t) refl
+number_back f.Imm21 c.Wide width (v.Wide n) h is t =
+    let e = eqb-true width 21 h in let s : n < 2 ^ 21 = rw e at t in record { printed = le-leb n 2097151 (omega (arith, s)); read = refl }
 number_back f.Count c.LessOne width (v.Small n) h is t =
-    let e = eqb-true width 2 h in let s : n ≤ 4 = rw e at t.1 in record { printed = rw (le-leb n 4 s, le-leb 1 n t.0) refl; read = rw (small_is n (omega (arith, s))) refl }
+    let e =
+    eqb-true width 2 h in let s : n ≤ 4 = rw e at t.1 in record {
+      printed = rw (le-leb n 4 s, le-leb 1 n t.0) refl;
+      read = rw (small_is n (omega (arith, s))) refl;
+    }
 number_back f.Length c.LessOne width (v.Small n) h is t =
-    let e = eqb-true width 6 h in let s : n ≤ 64 = rw e at t.1 in record { printed = rw (le-leb n 64 s, le-leb 1 n t.0) refl; read = rw (small_is n (omega (arith, s))) refl }
+    let e =
+    eqb-true width 6 h in let s : n ≤ 64 = rw e at t.1 in record {
+      printed = rw (le-leb n 64 s, le-leb 1 n t.0) refl;
+      read = rw (small_is n (omega (arith, s))) refl;
+    }
 number_back f.Length16 c.LessOne width (v.Small n) h is t =
-    let e = eqb-true width 4 h in let s : n ≤ 16 = rw e at t.1 in record { printed = rw (le-leb n 16 s, le-leb 1 n t.0) refl; read = rw (small_is n (omega (arith, s))) refl }
+    let e =
+    eqb-true width 4 h in let s : n ≤ 16 = rw e at t.1 in record {
+      printed = rw (le-leb n 16 s, le-leb 1 n t.0) refl;
+      read = rw (small_is n (omega (arith, s))) refl;
+    }
 number_back f.Position c.Small width (v.Small n) h is t =
-    let e = eqb-true width 6 h in let s : n < 64 = rw e at t in record { printed = le-leb n 63 (omega (arith, s)); read = rw (small_is n (omega (arith, s))) refl }
-number_back f.Position c.From63 width (v.Small n) h is t = record { printed = le-leb n 63 t; read = rw (small_is n (omega (arith, t))) refl }
+    let e =
+    eqb-true width 6 h in let s : n < 64 = rw e at t in record {
+      printed = le-leb n 63 (omega (arith, s));
+      read = rw (small_is n (omega (arith, s))) refl;
+    }
+number_back f.Position c.From63 width (v.Small n) h is t =
+    record { printed = le-leb n 63 t; read = rw (small_is n (omega (arith, t))) refl }
 number_back f.ZeroOrMinusOne c.Flag width (v.Flag true) h is t = record { printed = refl; read = refl }
 number_back f.ZeroOrMinusOne c.Flag width (v.Flag false) h is t = record { printed = refl; read = refl }
 number_back f.Mask c.PredicateMask width (v.Mask n) h is t =
-    let e = eqb-true width 16 h in let s : n < 131072 = rw e at t.0 in record { printed = le-leb n 131071 (omega (arith, s)); read = ap v.Mask (mask_back n s t.1) }
+    let e =
+    eqb-true width 16 h in let s : n < 131072 = rw e at t.0 in record {
+      printed = le-leb n 131071 (omega (arith, s));
+      read = ap v.Mask (mask_back n s t.1);
+    }
 number_back field coding width value h is t = cc
 
 -- The coding, with this many bits, has operands of the kind.
@@ -141,7 +178,8 @@ is_kind k.Label c.Displacement width = true
 is_kind (k.Number field) coding width = is_field field coding width
 is_kind _ _ width = false
 
-pub operand_back : (kind : Kind) (x : Opcode) (coding : Coding) (width : ℕ) (value : Value) → is_kind kind coding width ≡ true → is_of_kind coding value ≡ true → Takes coding width value → IsBack kind (operand_of kind x value) value
+pub operand_back : (kind : Kind) (x : Opcode) (coding : Coding) (width : ℕ) (value : Value) → is_kind kind coding width ≡ true
+    → is_of_kind coding value ≡ true → Takes coding width value → IsBack kind (operand_of kind x value) value
 operand_back k.Gr x c.Gr width (v.Gr n) h is t = record { printed = refl; read = refl }
 operand_back k.Gr x c.LowGr width (v.Gr n) h is t = record { printed = refl; read = refl }
 operand_back k.Gr x c.Target width (v.Gr n) h is t = record { printed = refl; read = refl }

@@ -15,24 +15,55 @@ use Rattle.asm_text.proofs.WayBack.{ReadsBack}
 pub movl_back : (r1 imm : ℕ) → imm < 18446744073709551616 → ReadsBack (op.Movl r1 imm)
 movl_back r1 imm l =
     let s : imm % 18446744073709551616 ≡ imm = mod-eq_of_lt l in
-    record { choice = refl; fits = rw (le-leb imm 18446744073709551615 (omega (arith, l))) refl; label = refl; slot = refl; bare = refl; op = ap (λ n. Some (op.Movl r1 n)) s }
+    record {
+      choice = refl;
+      fits = rw (le-leb imm 18446744073709551615 (omega (arith, l))) refl;
+      label = refl;
+      slot = refl;
+      bare = refl;
+      op = ap (λ n. Some (op.Movl r1 n)) s;
+    }
 
 -- I19, M37, B9, F15 and X1.
 pub break_back : (u : ExecutionUnit) (imm : ℕ) → IsNumberOf u imm → ReadsBack (op.Break u imm)
-break_back unit.M imm h = record { choice = refl; fits = rw (le-leb imm 2097151 (omega (arith, h))) refl; label = refl; slot = refl; bare = refl; op = refl }
-break_back unit.I imm h = record { choice = refl; fits = rw (le-leb imm 2097151 (omega (arith, h))) refl; label = refl; slot = refl; bare = refl; op = refl }
-break_back unit.F imm h = record { choice = refl; fits = rw (le-leb imm 2097151 (omega (arith, h))) refl; label = refl; slot = refl; bare = refl; op = refl }
-break_back unit.B imm h = record { choice = refl; fits = rw (le-leb imm 2097151 (omega (arith, h))) refl; label = refl; slot = refl; bare = refl; op = refl }
-break_back unit.X imm h = record { choice = refl; fits = rw (le-leb imm 4611686018427387903 (omega (arith, h))) refl; label = refl; slot = refl; bare = refl; op = refl }
+break_back unit.M imm h =
+    record { choice = refl; fits = rw (le-leb imm 2097151 (omega (arith, h))) refl; label = refl; slot = refl; bare = refl; op = refl }
+break_back unit.I imm h =
+    record { choice = refl; fits = rw (le-leb imm 2097151 (omega (arith, h))) refl; label = refl; slot = refl; bare = refl; op = refl }
+break_back unit.F imm h =
+    record { choice = refl; fits = rw (le-leb imm 2097151 (omega (arith, h))) refl; label = refl; slot = refl; bare = refl; op = refl }
+break_back unit.B imm h =
+    record { choice = refl; fits = rw (le-leb imm 2097151 (omega (arith, h))) refl; label = refl; slot = refl; bare = refl; op = refl }
+break_back unit.X imm h =
+    record {
+      choice = refl;
+      fits = rw (le-leb imm 4611686018427387903 (omega (arith, h))) refl;
+      label = refl;
+      slot = refl;
+      bare = refl;
+      op = refl;
+    }
 break_back unit.L imm h = absurd h
 
 -- I18, M48, B9, F16 and X5.
 pub nop_back : (u : ExecutionUnit) (imm : ℕ) → IsNumberOf u imm → ReadsBack (op.Nop u imm)
-nop_back unit.M imm h = record { choice = refl; fits = rw (le-leb imm 2097151 (omega (arith, h))) refl; label = refl; slot = refl; bare = refl; op = refl }
-nop_back unit.I imm h = record { choice = refl; fits = rw (le-leb imm 2097151 (omega (arith, h))) refl; label = refl; slot = refl; bare = refl; op = refl }
-nop_back unit.F imm h = record { choice = refl; fits = rw (le-leb imm 2097151 (omega (arith, h))) refl; label = refl; slot = refl; bare = refl; op = refl }
-nop_back unit.B imm h = record { choice = refl; fits = rw (le-leb imm 2097151 (omega (arith, h))) refl; label = refl; slot = refl; bare = refl; op = refl }
-nop_back unit.X imm h = record { choice = refl; fits = rw (le-leb imm 4611686018427387903 (omega (arith, h))) refl; label = refl; slot = refl; bare = refl; op = refl }
+nop_back unit.M imm h =
+    record { choice = refl; fits = rw (le-leb imm 2097151 (omega (arith, h))) refl; label = refl; slot = refl; bare = refl; op = refl }
+nop_back unit.I imm h =
+    record { choice = refl; fits = rw (le-leb imm 2097151 (omega (arith, h))) refl; label = refl; slot = refl; bare = refl; op = refl }
+nop_back unit.F imm h =
+    record { choice = refl; fits = rw (le-leb imm 2097151 (omega (arith, h))) refl; label = refl; slot = refl; bare = refl; op = refl }
+nop_back unit.B imm h =
+    record { choice = refl; fits = rw (le-leb imm 2097151 (omega (arith, h))) refl; label = refl; slot = refl; bare = refl; op = refl }
+nop_back unit.X imm h =
+    record {
+      choice = refl;
+      fits = rw (le-leb imm 4611686018427387903 (omega (arith, h))) refl;
+      label = refl;
+      slot = refl;
+      bare = refl;
+      op = refl;
+    }
 nop_back unit.L imm h = absurd h
 
 -- M34
@@ -49,4 +80,11 @@ alloc_back r1 sof sol sor hf hl ho =
     let e2 : 0 + sol ≡ sol = omega arith in
     let e3 : 8 * sor / 8 ≡ sor = omega arith in
     let c1 : ltb 96 sof ≡ false = grind (arith, nat_tests, hf) in
-    record { choice = refl; fits = rw (i1, i2, i3, i4) refl; label = refl; slot = refl; bare = refl; op = rw (s1, s2, s3, e1, e2, e3, c1) refl }
+    record {
+      choice = refl;
+      fits = rw (i1, i2, i3, i4) refl;
+      label = refl;
+      slot = refl;
+      bare = refl;
+      op = rw (s1, s2, s3, e1, e2, e3, c1) refl;
+    }

@@ -76,7 +76,8 @@ slot_apart x = refl
 
 long_is_apart : (i : Insn) → IsListedBy rows_x (slot_part i) → is_apart (opcode_of i.op) ≡ true
 long_is_apart i l =
-    let h : is_apart (get_or rows_x l.1.row_index no_row).opcode ≡ true = all_get (λ r. is_apart r.opcode) rows_x l.1.row_index no_row l.1.inside all_apart in
+    let h : is_apart (get_or rows_x l.1.row_index no_row).opcode ≡ true =
+    all_get (λ r. is_apart r.opcode) rows_x l.1.row_index no_row l.1.inside all_apart in
     sym (slot_apart i.op) ∙ (rw ((l.1.row no_row).opcode) at h)
 
 by_row : (i : Insn) → IsListed i → is_apart (opcode_of i.op) ≡ false → ReadsBack i.op

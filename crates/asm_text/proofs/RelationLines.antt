@@ -26,7 +26,8 @@ words p q =
 last_lexed : (q : ℕ) → q < 2 ^ 64 → lexed 0 (codes ",p" ++ decimal q) ≡ (kind.Mark, codes ",") ∷ (kind.Name, 112 ∷ decimal q) ∷ []
 last_lexed q l =
     ap (λ ws. (kind.Mark, codes ",") ∷ ws)
-    (ap (λ ds. lexed 0 (112 ∷ ds)) (sym (append-nil (decimal q))) ∙ name_lexed 112 (decimal q) [] refl refl (decimal_is_name_bytes q l) refl)
+    (ap (λ ds. lexed 0 (112 ∷ ds)) (sym (append-nil (decimal q)))
+    ∙ name_lexed 112 (decimal q) [] refl refl (decimal_is_name_bytes q l) refl)
 
 relation_lexed : (p q : ℕ) → p < 2 ^ 64 → q < 2 ^ 64 → lexed 0 (relation_text p q) ≡ words p q
 relation_lexed p q lp lq =
@@ -34,11 +35,13 @@ relation_lexed p q lp lq =
     ap (λ ds. lexed 0 (codes ".pred.rel \"mutex\",p" ++ ds)) (append_assoc (decimal p) (codes ",p") (decimal q))
     ∙ name_lexed 46 (codes "pred.rel") (codes " \"mutex\",p" ++ (decimal p ++ rest)) refl refl refl refl
     ∙ ap (λ ws. (kind.Name, codes ".pred.rel") ∷ (kind.Quoted, codes "\"mutex\"") ∷ (kind.Mark, codes ",") ∷ ws)
-    (name_lexed 112 (decimal p) rest refl refl (decimal_is_name_bytes p lp) refl ∙ ap (λ ws. (kind.Name, 112 ∷ decimal p) ∷ ws) (last_lexed q lq))
+    (name_lexed 112 (decimal p) rest refl refl (decimal_is_name_bytes p lp) refl
+    ∙ ap (λ ws. (kind.Name, 112 ∷ decimal p) ∷ ws) (last_lexed q lq))
 
 relation_value : (p q : ℕ) → 1 ≤ p → p < q → q ≤ 15 → value_of (words p q) ≡ Ok (line.Relation (p ∷ q ∷ []))
 relation_value p q some less few =
-    ap (λ x. relation_of (t.Mutex ∷ t.Comma ∷ x ∷ t.Comma ∷ token_of kind.Name (112 ∷ decimal q) ∷ [])) (pr_reads p (omega (arith, less, few)))
+    ap (λ x. relation_of (t.Mutex ∷ t.Comma ∷ x ∷ t.Comma ∷ token_of kind.Name (112 ∷ decimal q) ∷ []))
+    (pr_reads p (omega (arith, less, few)))
     ∙ ap (λ x. relation_of (t.Mutex ∷ t.Comma ∷ t.Pr p ∷ t.Comma ∷ x ∷ [])) (pr_reads q (omega (arith, few)))
     ∙ two_read p q some less few
 
@@ -48,5 +51,6 @@ relation_reads p q some less few =
     let lq : q < 2 ^ 64 = omega (arith, few) in
     let plain : has_only_plain (relation_text p q) ≡ true =
     both_plain (codes ".pred.rel \"mutex\",p" ++ decimal p ++ codes ",p") (decimal q)
-    (both_plain (codes ".pred.rel \"mutex\",p" ++ decimal p) (codes ",p") (both_plain (codes ".pred.rel \"mutex\",p") (decimal p) refl (decimal_is_plain p lp)) refl) (decimal_is_plain q lq) in
+    (both_plain (codes ".pred.rel \"mutex\",p" ++ decimal p) (codes ",p")
+    (both_plain (codes ".pred.rel \"mutex\",p") (decimal p) refl (decimal_is_plain p lp)) refl) (decimal_is_plain q lq) in
     read_plain (relation_text p q) plain ∙ ap value_of (relation_lexed p q lp lq) ∙ relation_value p q some less few

@@ -68,13 +68,19 @@ kind_fits (k.Number field) (t.Number negative m) h = refl
 kind_fits kind x h = cc
 
 -- The word of a row, any completers of its sets and its operands have at most 107 bytes.
-rows_short : list_all (λ r. list_all (λ cs. leb (length r.stem + length (flat_map text_of cs) + items_room r.items) 107) (products r.sets)) rows ≡ true
+rows_short : list_all (λ r. list_all (λ cs. leb (length r.stem + length (flat_map text_of cs) + items_room r.items) 107) (products r.sets))
+    rows ≡ true
 rows_short = refl
 
-row_is_short : (f : Form) (cs : List Completer) → completers_in (row_of f).sets (flat_map text_of cs) ≡ Some cs → length (mnemonic_text f cs) + items_room (row_of f).items ≤ 107
+row_is_short : (f : Form) (cs : List Completer) → completers_in (row_of f).sets (flat_map text_of cs) ≡ Some cs
+    → length (mnemonic_text f cs) + items_room (row_of f).items ≤ 107
 row_is_short f cs h =
-    let each = of_row (λ r. list_all (λ ds. leb (length r.stem + length (flat_map text_of ds) + items_room r.items) 107) (products r.sets)) f rows_short in
-    let all = leb-true _ _ (of_products (λ ds. leb (length (row_of f).stem + length (flat_map text_of ds) + items_room (row_of f).items) 107) (row_of f).sets (flat_map text_of cs) cs each h) in
+    let each =
+    of_row (λ r. list_all (λ ds. leb (length r.stem + length (flat_map text_of ds) + items_room r.items) 107) (products r.sets)) f
+    rows_short in
+    let all =
+    leb-true _ _ (of_products (λ ds. leb (length (row_of f).stem + length (flat_map text_of ds) + items_room (row_of f).items) 107)
+    (row_of f).sets (flat_map text_of cs) cs each h) in
     let both = length-append (row_of f).stem (flat_map text_of cs) in
     omega (arith, all, both)
 
@@ -102,7 +108,8 @@ token_is_short target hex t.CloseBracket l p = omega arith
 token_is_short target hex x l p = absurd p
 
 -- The text of operands fits in their room.
-operands_are_short : (target : ℕ) (is : List FormItem) (xs : List Token) → target < 2 ^ 34 → fits is xs ≡ true → AllByRecursion IsPrinted (filled is xs) → length (operands_text target is xs) ≤ items_room is
+operands_are_short : (target : ℕ) (is : List FormItem) (xs : List Token) → target < 2 ^ 34 → fits is xs ≡ true
+    → AllByRecursion IsPrinted (filled is xs) → length (operands_text target is xs) ≤ items_room is
 operands_are_short target [] xs l h p = omega arith
 operands_are_short target (Is fixed ∷ is) xs l h p =
     let one = token_is_short target false (fixed_token fixed) l p.0 in
@@ -136,7 +143,8 @@ guard_is_short false qp h =
     omega (arith, d, both)
 
 -- The parts of a line, by their lengths.
-parts_are_short : (pr m d s : List ℕ) → length pr ≤ 6 → length m + length d ≤ 108 → length s ≤ 3 → length (codes "  " ++ pr ++ m ++ d ++ s) ≤ SLOT_LINE_LIMIT
+parts_are_short : (pr m d s : List ℕ) → length pr ≤ 6 → length m + length d ≤ 108 → length s ≤ 3
+    → length (codes "  " ++ pr ++ m ++ d ++ s) ≤ SLOT_LINE_LIMIT
 parts_are_short pr m d s hp hd hs =
     let a = length-append (pr ++ m ++ d) s in
     let b = length-append (pr ++ m) d in
@@ -150,8 +158,11 @@ small_target (Some n) h = h
 
 -- The canonical line of an instruction whose completers and operands are those of its row, and whose operands can be
 -- printed, is short.
-pub slot_line_is_short : (i : Insn) (bundle : ℕ) (stop : Bool) → completers_in (row_of (form_of i.op)).sets (flat_map text_of (completers_of i.op)) ≡ Some (completers_of i.op) → fits (items_of i.op) (operands_of i.op) ≡ true
-    → AllByRecursion IsPrinted (tokens_of i.op) → i.qp < 64 → IfSome (target_of bundle i.op) (λ n. n < 2 ^ 34) → length (slot_text i bundle stop) ≤ SLOT_LINE_LIMIT
+pub slot_line_is_short : (i : Insn) (bundle : ℕ) (stop : Bool)
+    → completers_in (row_of (form_of i.op)).sets (flat_map text_of (completers_of i.op)) ≡ Some (completers_of i.op)
+    → fits (items_of i.op) (operands_of i.op) ≡ true
+    → AllByRecursion IsPrinted (tokens_of i.op) → i.qp < 64 → IfSome (target_of bundle i.op) (λ n. n < 2 ^ 34)
+    → length (slot_text i bundle stop) ≤ SLOT_LINE_LIMIT
 slot_line_is_short i bundle stop choice fit printed small near =
     let target = or_zero (target_of bundle i.op) in
     let text = operands_text target (items_of i.op) (operands_of i.op) in

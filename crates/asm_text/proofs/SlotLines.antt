@@ -121,7 +121,8 @@ lead_fourth x xs h = rw h refl
 abbrev draft : ℕ → Op → Option (List ℕ) → Bool → Draft
 draft qp x name bare = record { insn = record { qp = qp; op = x }; target = name; bare = bare }
 
-same_draft : (qp : ℕ) (x : Op) (name printed : Option (List ℕ)) (bare : Bool) → name ≡ printed → bare ≡ false → draft qp x name bare ≡ draft qp x printed false
+same_draft : (qp : ℕ) (x : Op) (name printed : Option (List ℕ)) (bare : Bool) → name ≡ printed → bare ≡ false
+    → draft qp x name bare ≡ draft qp x printed false
 same_draft qp x name printed bare e f = rw (e, f) refl
 
 abbrev slot_by : Result ℕ LineFault → Result Form LineFault → (Form → Option Op) → (Form → ℕ → Op → Draft) → Bool → Result Line LineFault
@@ -131,17 +132,21 @@ slot_by q r build drafted e = do
   x ← or_fault (build f) fault.Form
   Ok (line.Slot (drafted f qp x) e)
 
-joined : (q : Result ℕ LineFault) (r : Result Form LineFault) (build : Form → Option Op) (drafted : Form → ℕ → Op → Draft) (e : Bool) (qp : ℕ) (f : Form) (x : Op) (d : Draft) (stop : Bool)
+joined : (q : Result ℕ LineFault) (r : Result Form LineFault) (build : Form → Option Op) (drafted : Form → ℕ → Op → Draft) (e : Bool)
+    (qp : ℕ) (f : Form) (x : Op) (d : Draft) (stop : Bool)
     → q ≡ Ok qp → r ≡ Ok f → build f ≡ Some x → drafted f qp x ≡ d → e ≡ stop → slot_by q r build drafted e ≡ Ok (line.Slot d stop)
 joined q r build drafted e qp f x d stop eq er eb ed ee = rw (eq, er, eb, ed, ee) refl
 
 -- The completers after a word are those of the form.
-own_completers : (f : Form) (cs : List Completer) → completers_in (row_of f).sets (flat_map text_of cs) ≡ Some cs → completers_or_none f (mnemonic_text f cs) ≡ cs
+own_completers : (f : Form) (cs : List Completer) → completers_in (row_of f).sets (flat_map text_of cs) ≡ Some cs
+    → completers_or_none f (mnemonic_text f cs) ≡ cs
 own_completers f cs h =
-    ap (λ text. unwrap_or (completers_in (row_of f).sets text) []) (drop-append_seam (row_of f).stem (flat_map text_of cs)) ∙ ap (λ o. unwrap_or o []) h
+    ap (λ text. unwrap_or (completers_in (row_of f).sets text) []) (drop-append_seam (row_of f).stem (flat_map text_of cs))
+    ∙ ap (λ o. unwrap_or o []) h
 
 -- The words after the leading one are read as the instruction that was printed.
-slot_reads : (x : Op) (before after : List KindAndText) (qp : ℕ) (name : Option (List ℕ)) (stop : Bool) → ReadsBack x → AllByRecursion IsPrinted (tokens_of x) → predicate_of (tokens before) ≡ Ok qp
+slot_reads : (x : Op) (before after : List KindAndText) (qp : ℕ) (name : Option (List ℕ)) (stop : Bool) → ReadsBack x
+    → AllByRecursion IsPrinted (tokens_of x) → predicate_of (tokens before) ≡ Ok qp
     → tokens after ≡ tokens_of x ++ stops stop → label_name (items_of x) after ≡ name
     → slot_of (named_forms (name_of_op x)) (name_of_op x) before after ≡ Ok (line.Slot (draft qp (untargeted x) name false) stop)
 slot_reads x before after qp name stop back printed p seen n =
@@ -150,7 +155,8 @@ slot_reads x before after qp name stop back printed p seen n =
     let w : without_stop (tokens after) ≡ tokens_of x = ap without_stop seen ∙ without (tokens_of x) stop printed in
     let found : find (is_spelled (tokens_of x)) forms ≡ Some f = row_back f (completers_of x) (operands_of x) back.choice back.fits in
     let cs : completers_or_none f (name_of_op x) ≡ completers_of x = own_completers f (completers_of x) back.choice in
-    let xs : taken (items_of x) (without_stop (tokens after)) ≡ operands_of x = ap (taken (items_of x)) w ∙ taken_back (items_of x) (operands_of x) back.fits in
+    let xs : taken (items_of x) (without_stop (tokens after)) ≡ operands_of x =
+    ap (taken (items_of x)) w ∙ taken_back (items_of x) (operands_of x) back.fits in
     let bare : is_bare (completers_or_none f (name_of_op x)) ≡ false = ap is_bare cs ∙ back.bare in
     joined (predicate_of (tokens before)) (read_form forms (without_stop (tokens after)) (tokens after))
     (λ g. op_of g (completers_or_none g (name_of_op x)) (taken (row_of g).items (without_stop (tokens after))))
@@ -163,19 +169,22 @@ slot_reads x before after qp name stop back printed p seen n =
     (ap ends_in_stop seen ∙ ends_with (tokens_of x) stop printed)
 
 -- The words of a line with the mnemonic before them are read as the instruction that was printed.
-worded_reads : (x : Op) (before after : List KindAndText) (qp : ℕ) (name : Option (List ℕ)) (stop : Bool) → ReadsBack x → AllByRecursion IsPrinted (tokens_of x) → predicate_of (tokens before) ≡ Ok qp
+worded_reads : (x : Op) (before after : List KindAndText) (qp : ℕ) (name : Option (List ℕ)) (stop : Bool) → ReadsBack x
+    → AllByRecursion IsPrinted (tokens_of x) → predicate_of (tokens before) ≡ Ok qp
     → tokens after ≡ tokens_of x ++ stops stop → label_name (items_of x) after ≡ name
     → worded (name_of_op x) before after ≡ Ok (line.Slot (draft qp (untargeted x) name false) stop)
 worded_reads x before after qp name stop back printed p seen n =
     let found = row_back (form_of x) (completers_of x) (operands_of x) back.choice back.fits in
-    slot_first (named_forms (name_of_op x)) (is_spelled (tokens_of x)) (form_of x) (name_of_op x) before after (named_slots (form_of x) (completers_of x) back.slot) found
+    slot_first (named_forms (name_of_op x)) (is_spelled (tokens_of x)) (form_of x)
+    (name_of_op x) before after (named_slots (form_of x) (completers_of x) back.slot) found
     ∙ slot_reads x before after qp name stop back printed p seen n
 
 led_from : (ws : List KindAndText) (k : ℕ) → lead_at (tokens ws) ≡ Some k → led ws ≡ led_at ws (Some k)
 led_from ws k e = ap (led_at ws) e
 
 -- A line with no predicate: the mnemonic and what follows it.
-plain_value : (x : Op) (rest : List ℕ) (name : Option (List ℕ)) (stop : Bool) → ReadsBack x → AllByRecursion IsPrinted (tokens_of x) → is_end rest ≡ true
+plain_value : (x : Op) (rest : List ℕ) (name : Option (List ℕ)) (stop : Bool) → ReadsBack x → AllByRecursion IsPrinted (tokens_of x)
+    → is_end rest ≡ true
     → tokens (lexed 0 rest) ≡ tokens_of x ++ stops stop → label_name (items_of x) (lexed 0 rest) ≡ name
     → value_of (lexed 0 (name_of_op x ++ rest)) ≡ Ok (line.Slot (draft 0 (untargeted x) name false) stop)
 plain_value x rest name stop back printed e seen n =
@@ -186,32 +195,42 @@ plain_value x rest name stop back printed e seen n =
     ∙ led_from ((kind.Name, m) ∷ ws) 0 (lead_first m ws)
     ∙ worded_reads x [] ws 0 name stop back printed refl seen n
 
-guarded_lexed : (qp : ℕ) (after : List ℕ) → qp < 64 → lexed 0 (codes "(p" ++ decimal qp ++ codes ") " ++ after) ≡ (kind.Mark, codes "(") ∷ (kind.Name, 112 ∷ decimal qp) ∷ (kind.Mark, codes ")") ∷ lexed 0 after
+guarded_lexed : (qp : ℕ) (after : List ℕ) → qp < 64 → lexed 0 (codes "(p" ++ decimal qp ++ codes ") " ++ after)
+    ≡ (kind.Mark, codes "(") ∷ (kind.Name, 112 ∷ decimal qp) ∷ (kind.Mark, codes ")") ∷ lexed 0 after
 guarded_lexed qp after small =
     ap (λ y. lexed 0 (40 ∷ 112 ∷ y)) (append_assoc (decimal qp) (codes ") ") after)
-    ∙ ap (λ y. (kind.Mark, codes "(") ∷ y) (name_lexed 112 (decimal qp) (41 ∷ 32 ∷ after) refl refl (decimal_is_name_bytes qp (omega arith)) refl)
+    ∙ ap (λ y. (kind.Mark, codes "(") ∷ y) (name_lexed 112 (decimal qp)
+    (41 ∷ 32 ∷ after) refl refl (decimal_is_name_bytes qp (omega arith)) refl)
 
 -- A line with a predicate before the mnemonic.
-guarded_value : (x : Op) (qp : ℕ) (rest : List ℕ) (name : Option (List ℕ)) (stop : Bool) → ReadsBack x → AllByRecursion IsPrinted (tokens_of x) → qp < 64 → is_end rest ≡ true
+guarded_value : (x : Op) (qp : ℕ) (rest : List ℕ) (name : Option (List ℕ)) (stop : Bool) → ReadsBack x
+    → AllByRecursion IsPrinted (tokens_of x) → qp < 64 → is_end rest ≡ true
     → tokens (lexed 0 rest) ≡ tokens_of x ++ stops stop → label_name (items_of x) (lexed 0 rest) ≡ name
-    → value_of (lexed 0 (codes "(p" ++ decimal qp ++ codes ") " ++ (name_of_op x ++ rest))) ≡ Ok (line.Slot (draft qp (untargeted x) name false) stop)
+    → value_of (lexed 0 (codes "(p" ++ decimal qp ++ codes ") " ++ (name_of_op x ++ rest)))
+    ≡ Ok (line.Slot (draft qp (untargeted x) name false) stop)
 guarded_value x qp rest name stop back printed small e seen n =
     let m = name_of_op x in
     let ws = lexed 0 rest in
     let before : List KindAndText = (kind.Mark, codes "(") ∷ (kind.Name, 112 ∷ decimal qp) ∷ (kind.Mark, codes ")") ∷ [] in
     let reads = pr_reads qp small in
-    let cut : lexed 0 (codes "(p" ++ decimal qp ++ codes ") " ++ (m ++ rest)) ≡ (kind.Mark, codes "(") ∷ (kind.Name, 112 ∷ decimal qp) ∷ (kind.Mark, codes ")") ∷ (kind.Name, m) ∷ ws =
-    guarded_lexed qp (m ++ rest) small ∙ ap (λ y. (kind.Mark, codes "(") ∷ (kind.Name, 112 ∷ decimal qp) ∷ (kind.Mark, codes ")") ∷ y) (mnemonic_lexed (form_of x) (completers_of x) rest e) in
+    let cut : lexed 0 (codes "(p" ++ decimal qp ++ codes ") " ++ (m ++ rest))
+    ≡ (kind.Mark, codes "(") ∷ (kind.Name, 112 ∷ decimal qp) ∷ (kind.Mark, codes ")") ∷ (kind.Name, m) ∷ ws =
+    guarded_lexed qp (m ++ rest) small ∙ ap (λ y. (kind.Mark, codes "(") ∷ (kind.Name, 112 ∷ decimal qp) ∷ (kind.Mark, codes ")") ∷ y)
+    (mnemonic_lexed (form_of x) (completers_of x) rest e) in
     let qualified : predicate_of (tokens before) ≡ Ok qp = ap (λ y. predicate_of (t.OpenParenthesis ∷ y ∷ t.CloseParenthesis ∷ [])) reads in
     ap value_of cut
-    ∙ led_from ((kind.Mark, codes "(") ∷ (kind.Name, 112 ∷ decimal qp) ∷ (kind.Mark, codes ")") ∷ (kind.Name, m) ∷ ws) 3 (lead_fourth (token_of kind.Name (112 ∷ decimal qp)) (token_of kind.Name m ∷ tokens ws) (ap is_close reads))
+    ∙ led_from ((kind.Mark, codes "(") ∷ (kind.Name, 112 ∷ decimal qp) ∷ (kind.Mark, codes ")") ∷ (kind.Name, m) ∷ ws) 3
+    (lead_fourth (token_of kind.Name (112 ∷ decimal qp)) (token_of kind.Name m ∷ tokens ws) (ap is_close reads))
     ∙ worded_reads x before ws qp name stop back printed qualified seen n
 
-predicated : (b : Bool) (x : Op) (qp : ℕ) (rest : List ℕ) (name : Option (List ℕ)) (stop : Bool) → eqb qp 0 ≡ b → ReadsBack x → AllByRecursion IsPrinted (tokens_of x) → qp < 64 → is_end rest ≡ true
+predicated : (b : Bool) (x : Op) (qp : ℕ) (rest : List ℕ) (name : Option (List ℕ)) (stop : Bool) → eqb qp 0 ≡ b → ReadsBack x
+    → AllByRecursion IsPrinted (tokens_of x) → qp < 64 → is_end rest ≡ true
     → tokens (lexed 0 rest) ≡ tokens_of x ++ stops stop → label_name (items_of x) (lexed 0 rest) ≡ name
-    → value_of (lexed 0 (cond b [] (codes "(p" ++ decimal qp ++ codes ") ") ++ (name_of_op x ++ rest))) ≡ Ok (line.Slot (draft qp (untargeted x) name false) stop)
+    → value_of (lexed 0 (cond b [] (codes "(p" ++ decimal qp ++ codes ") ") ++ (name_of_op x ++ rest)))
+    ≡ Ok (line.Slot (draft qp (untargeted x) name false) stop)
 predicated true x qp rest name stop z back printed small e seen n =
-    plain_value x rest name stop back printed e seen n ∙ ap (λ q. Ok (line.Slot (draft q (untargeted x) name false) stop)) (sym (eqb-true qp 0 z))
+    plain_value x rest name stop back printed e seen n ∙ ap (λ q. Ok (line.Slot (draft q (untargeted x) name false) stop))
+    (sym (eqb-true qp 0 z))
 predicated false x qp rest name stop z back printed small e seen n = guarded_value x qp rest name stop back printed small e seen n
 
 -- What stands after the mnemonic.
@@ -233,8 +252,10 @@ spaced_lexed [] cs = refl
 spaced_lexed (c ∷ text) cs = refl
 
 -- The name of the line is the label of the target, where there is one.
-label_back : (is : List FormItem) (xs : List Token) (cs : List ℕ) (target : Option ℕ) → IfSome target (λ n. n < 2 ^ 34) → length is ≡ length xs → AllByRecursion IsPrinted xs → are_apart xs ≡ true → is_end cs ≡ true
-    → label_token is xs ≡ option_map (λ n. t.Name) target → label_name is (lexed 0 (tokens_text (or_zero target) is xs ++ cs)) ≡ option_map label_text target
+label_back : (is : List FormItem) (xs : List Token) (cs : List ℕ) (target : Option ℕ) → IfSome target (λ n. n < 2 ^ 34)
+    → length is ≡ length xs → AllByRecursion IsPrinted xs → are_apart xs ≡ true → is_end cs ≡ true
+    → label_token is xs ≡ option_map (λ n. t.Name) target → label_name is (lexed 0 (tokens_text (or_zero target) is xs ++ cs))
+    ≡ option_map label_text target
 label_back is xs cs None l n p a e h = label_missing 0 is xs cs (small_target None tt) n p a e h
 label_back is xs cs (Some m) l n p a e h = label_found m is xs cs l n p a e h
 
@@ -251,9 +272,11 @@ predicate_plain : (b : Bool) (qp : ℕ) → qp < 64 → has_only_plain (cond b [
 predicate_plain true qp h = refl
 predicate_plain false qp h = both_plain (decimal qp) (codes ") ") (decimal_is_plain qp (omega arith)) refl
 
-parts_plain : (pr m text : List ℕ) (stop : Bool) → has_only_plain pr ≡ true → has_only_plain m ≡ true → has_only_plain text ≡ true → has_only_plain (codes "  " ++ pr ++ m ++ spaced text ++ stop_text stop) ≡ true
+parts_plain : (pr m text : List ℕ) (stop : Bool) → has_only_plain pr ≡ true → has_only_plain m ≡ true → has_only_plain text ≡ true
+    → has_only_plain (codes "  " ++ pr ++ m ++ spaced text ++ stop_text stop) ≡ true
 parts_plain pr m text stop hp hm ht =
-    both_plain (pr ++ m ++ spaced text) (stop_text stop) (both_plain (pr ++ m) (spaced text) (both_plain pr m hp hm) (spaced_plain text ht)) (stop_plain stop)
+    both_plain (pr ++ m ++ spaced text) (stop_text stop) (both_plain (pr ++ m) (spaced text) (both_plain pr m hp hm) (spaced_plain text ht))
+    (stop_plain stop)
 
 -- The two spaces are no words.
 parts_lexed : (pr m d s : List ℕ) → lexed 0 (codes "  " ++ pr ++ m ++ d ++ s) ≡ lexed 0 (pr ++ (m ++ (d ++ s)))
@@ -263,9 +286,12 @@ pub read_plain : (bytes : List ℕ) → has_only_plain bytes ≡ true → readin
 read_plain bytes h = cond-true (has_only_plain bytes) _ _ h ∙ ap value_of (lexemes_lexed bytes)
 
 -- The operands of a line by the number of their target.
-line_back : (x : Op) (qp : ℕ) (target : Option ℕ) (stop : Bool) → ReadsBack x → AllByRecursion IsPrinted (tokens_of x) → qp < 64 → are_apart (tokens_of x) ≡ true
-    → length (items_of x) ≡ length (tokens_of x) → IfSome target (λ n. n < 2 ^ 34) → label_token (items_of x) (tokens_of x) ≡ option_map (λ n. t.Name) target
-    → reading_of (codes "  " ++ predicate_text qp ++ name_of_op x ++ spaced (tokens_text (or_zero target) (items_of x) (tokens_of x)) ++ stop_text stop)
+line_back : (x : Op) (qp : ℕ) (target : Option ℕ) (stop : Bool) → ReadsBack x → AllByRecursion IsPrinted (tokens_of x) → qp < 64
+    → are_apart (tokens_of x) ≡ true
+    → length (items_of x) ≡ length (tokens_of x) → IfSome target (λ n. n < 2 ^ 34)
+    → label_token (items_of x) (tokens_of x) ≡ option_map (λ n. t.Name) target
+    → reading_of (codes "  " ++ predicate_text qp ++ name_of_op x ++ spaced
+    (tokens_text (or_zero target) (items_of x) (tokens_of x)) ++ stop_text stop)
     ≡ Ok (line.Slot (draft qp (untargeted x) (option_map label_text target) false) stop)
 line_back x qp target stop back printed small apart same near names =
     let is = (items_of x) in
@@ -274,11 +300,15 @@ line_back x qp target stop back printed small apart same near names =
     let rest = spaced text ++ stop_text stop in
     let l : or_zero target < 2 ^ 34 = small_target target near in
     let seen : tokens (lexed 0 rest) ≡ tokens_of x ++ stops stop =
-    ap tokens (spaced_lexed text (stop_text stop)) ∙ operands_back (or_zero target) is (tokens_of x) (stop_text stop) l same printed apart (stop_ends stop) ∙ ap (λ ys. tokens_of x ++ ys) (stop_seen stop) in
+    ap tokens (spaced_lexed text (stop_text stop)) ∙ operands_back (or_zero target) is (tokens_of x)
+    (stop_text stop) l same printed apart (stop_ends stop) ∙ ap (λ ys. tokens_of x ++ ys) (stop_seen stop) in
     let name : label_name is (lexed 0 rest) ≡ option_map label_text target =
-    ap (label_name is) (spaced_lexed text (stop_text stop)) ∙ label_back is (tokens_of x) (stop_text stop) target near same printed apart (stop_ends stop) names in
+    ap (label_name is) (spaced_lexed text (stop_text stop)) ∙ label_back is (tokens_of x)
+    (stop_text stop) target near same printed apart (stop_ends stop) names in
     read_plain (codes "  " ++ predicate_text qp ++ m ++ spaced text ++ stop_text stop)
-    (parts_plain (predicate_text qp) m text stop (predicate_plain (eqb qp 0) qp small) (name_bytes_are_plain m (mnemonic_bytes (form_of x) (completers_of x))) (operands_plain (or_zero target) is (tokens_of x) l printed))
+    (parts_plain (predicate_text qp) m text stop (predicate_plain (eqb qp 0) qp small)
+    (name_bytes_are_plain m (mnemonic_bytes (form_of x) (completers_of x)))
+    (operands_plain (or_zero target) is (tokens_of x) l printed))
     ∙ ap value_of (parts_lexed (predicate_text qp) m (spaced text) (stop_text stop))
     ∙ predicated (eqb qp 0) x qp rest (option_map label_text target) stop refl back printed small (tail_ends text stop) seen name
 
@@ -291,10 +321,17 @@ names_of bundle x = map_twice t.Name _ (displacement x)
 
 -- The canonical line of an instruction is read as that instruction, with the label of its target for the
 -- displacement, and its stop.
-pub slot_line_back : (i : Insn) (bundle : ℕ) (stop : Bool) → ReadsBack i.op → AllByRecursion IsPrinted (tokens_of i.op) → i.qp < 64 → IfSome (target_of bundle i.op) (λ n. n < 2 ^ 34)
-    → reading_of (slot_text i bundle stop) ≡ Ok (line.Slot (record { insn = record { qp = i.qp; op = untargeted i.op }; target = option_map label_text (target_of bundle i.op); bare = false }) stop)
+pub slot_line_back : (i : Insn) (bundle : ℕ) (stop : Bool) → ReadsBack i.op → AllByRecursion IsPrinted (tokens_of i.op) → i.qp < 64
+    → IfSome (target_of bundle i.op) (λ n. n < 2 ^ 34)
+    → reading_of (slot_text i bundle stop) ≡ Ok (line.Slot (record {
+      insn = record { qp = i.qp; op = untargeted i.op };
+      target = option_map label_text (target_of bundle i.op);
+      bare = false;
+    }) stop)
 slot_line_back i bundle stop back printed small near =
     let f = form_of i.op in
     let names = label_token_of f (operands_of i.op) (displacement i.op) back.fits back.label in
-    ap (λ text. reading_of (codes "  " ++ predicate_text i.qp ++ name_of_op i.op ++ spaced text ++ stop_text stop)) (filled_text (or_zero (target_of bundle i.op)) (items_of i.op) (operands_of i.op))
-    ∙ line_back i.op i.qp (target_of bundle i.op) stop back printed small (row_apart f (operands_of i.op) back.fits) (as_many (items_of i.op) (operands_of i.op) back.fits) near (names ∙ names_of bundle i.op)
+    ap (λ text. reading_of (codes "  " ++ predicate_text i.qp ++ name_of_op i.op ++ spaced text ++ stop_text stop))
+    (filled_text (or_zero (target_of bundle i.op)) (items_of i.op) (operands_of i.op))
+    ∙ line_back i.op i.qp (target_of bundle i.op) stop back printed small (row_apart f (operands_of i.op) back.fits)
+    (as_many (items_of i.op) (operands_of i.op) back.fits) near (names ∙ names_of bundle i.op)

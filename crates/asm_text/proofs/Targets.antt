@@ -9,7 +9,8 @@ use Rattle.ia_insn.specs.Signed.{FitsSigned}
 use Rattle.asm_printing.specs.SlotTexts.{target_of, natural_of}
 
 fewer : (a b : ℕ) → natural_of (sub_ℕ a b) ≤ a
-fewer a b = elim (ltb a b) as (λ less. natural_of (cond less (negsuc (b - suc a)) (pos (a - b))) ≤ a) [ true ↦ omega arith | false ↦ omega arith ]
+fewer a b =
+    elim (ltb a b) as (λ less. natural_of (cond less (negsuc (b - suc a)) (pos (a - b))) ≤ a) [ true ↦ omega arith | false ↦ omega arith ]
 
 near : (bundle : ℕ) (disp : ℤ) → bundle < 2 ^ 32 → FitsSigned 21 disp → natural_of (pos bundle +ℤ disp) < 2 ^ 34
 near bundle (pos n) b h = omega (arith, b, h)

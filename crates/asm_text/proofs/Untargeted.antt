@@ -37,42 +37,53 @@ aimed z (op.Br kind wh many clr disp) = op.Br kind wh many clr z
 aimed z (op.BrCall b1 wh many clr disp) = op.BrCall b1 wh many clr z
 aimed z x = x
 
-row_aimed_a : (qp : ℕ) (x : Op) (z : ℤ) → FitsSigned 21 z → AsRow rows_a (row_index_a (opcode_of x)) (record { qp = qp; op = x }) → AsRow rows_a (row_index_a (opcode_of (aimed z x))) (record { qp = qp; op = aimed z x })
+row_aimed_a : (qp : ℕ) (x : Op) (z : ℤ) → FitsSigned 21 z → AsRow rows_a (row_index_a (opcode_of x)) (record { qp = qp; op = x })
+    → AsRow rows_a (row_index_a (opcode_of (aimed z x))) (record { qp = qp; op = aimed z x })
 unfolding rows_a listed
 row_aimed_a qp x z near h = grind arith
 
-pub aimed_a : (qp : ℕ) (x : Op) (z : ℤ) → FitsSigned 21 z → IsListedA (record { qp = qp; op = x }) → IsListedA (record { qp = qp; op = aimed z x })
+pub aimed_a : (qp : ℕ) (x : Op) (z : ℤ) → FitsSigned 21 z → IsListedA (record { qp = qp; op = x })
+    → IsListedA (record { qp = qp; op = aimed z x })
 aimed_a qp x z near l = of_row_a _ (row_aimed_a qp x z near (row_a _ l))
 
-row_aimed_i : (qp : ℕ) (x : Op) (z : ℤ) → FitsSigned 21 z → AsRow rows_i (row_index_i (opcode_of x)) (record { qp = qp; op = x }) → AsRow rows_i (row_index_i (opcode_of (aimed z x))) (record { qp = qp; op = aimed z x })
+row_aimed_i : (qp : ℕ) (x : Op) (z : ℤ) → FitsSigned 21 z → AsRow rows_i (row_index_i (opcode_of x)) (record { qp = qp; op = x })
+    → AsRow rows_i (row_index_i (opcode_of (aimed z x))) (record { qp = qp; op = aimed z x })
 unfolding rows_i listed
 row_aimed_i qp x z near h = grind arith
 
-pub aimed_i : (qp : ℕ) (x : Op) (z : ℤ) → FitsSigned 21 z → IsListedI (record { qp = qp; op = x }) → IsListedI (record { qp = qp; op = aimed z x })
+pub aimed_i : (qp : ℕ) (x : Op) (z : ℤ) → FitsSigned 21 z → IsListedI (record { qp = qp; op = x })
+    → IsListedI (record { qp = qp; op = aimed z x })
 aimed_i qp x z near l = of_row_i _ (row_aimed_i qp x z near (row_i _ l))
 
-row_aimed_m : (qp : ℕ) (x : Op) (z : ℤ) → FitsSigned 21 z → AsRow rows_m (row_index_m (opcode_of x)) (record { qp = qp; op = x }) → AsRow rows_m (row_index_m (opcode_of (aimed z x))) (record { qp = qp; op = aimed z x })
+row_aimed_m : (qp : ℕ) (x : Op) (z : ℤ) → FitsSigned 21 z → AsRow rows_m (row_index_m (opcode_of x)) (record { qp = qp; op = x })
+    → AsRow rows_m (row_index_m (opcode_of (aimed z x))) (record { qp = qp; op = aimed z x })
 unfolding rows_m listed
 row_aimed_m qp x z near h = grind arith
 
-pub aimed_m : (qp : ℕ) (x : Op) (z : ℤ) → FitsSigned 21 z → IsListedM (record { qp = qp; op = x }) → IsListedM (record { qp = qp; op = aimed z x })
+pub aimed_m : (qp : ℕ) (x : Op) (z : ℤ) → FitsSigned 21 z → IsListedM (record { qp = qp; op = x })
+    → IsListedM (record { qp = qp; op = aimed z x })
 aimed_m qp x z near l = of_row_m _ (row_aimed_m qp x z near (row_m _ l))
 
-row_aimed_b : (qp : ℕ) (x : Op) (z : ℤ) → FitsSigned 21 z → AsRow rows_b (row_index_b (opcode_of x)) (record { qp = qp; op = x }) → AsRow rows_b (row_index_b (opcode_of (aimed z x))) (record { qp = qp; op = aimed z x })
+row_aimed_b : (qp : ℕ) (x : Op) (z : ℤ) → FitsSigned 21 z → AsRow rows_b (row_index_b (opcode_of x)) (record { qp = qp; op = x })
+    → AsRow rows_b (row_index_b (opcode_of (aimed z x))) (record { qp = qp; op = aimed z x })
 unfolding rows_b listed
 row_aimed_b qp x z near h = grind arith
 
-pub aimed_b : (qp : ℕ) (x : Op) (z : ℤ) → FitsSigned 21 z → IsListedB (record { qp = qp; op = x }) → IsListedB (record { qp = qp; op = aimed z x })
+pub aimed_b : (qp : ℕ) (x : Op) (z : ℤ) → FitsSigned 21 z → IsListedB (record { qp = qp; op = x })
+    → IsListedB (record { qp = qp; op = aimed z x })
 aimed_b qp x z near l = of_row_b _ (row_aimed_b qp x z near (row_b _ l))
 
-row_aimed_f : (qp : ℕ) (x : Op) (z : ℤ) → FitsSigned 21 z → AsRow rows_f (row_index_f (opcode_of x)) (record { qp = qp; op = x }) → AsRow rows_f (row_index_f (opcode_of (aimed z x))) (record { qp = qp; op = aimed z x })
+row_aimed_f : (qp : ℕ) (x : Op) (z : ℤ) → FitsSigned 21 z → AsRow rows_f (row_index_f (opcode_of x)) (record { qp = qp; op = x })
+    → AsRow rows_f (row_index_f (opcode_of (aimed z x))) (record { qp = qp; op = aimed z x })
 unfolding rows_f listed
 row_aimed_f qp x z near h = grind arith
 
-pub aimed_f : (qp : ℕ) (x : Op) (z : ℤ) → FitsSigned 21 z → IsListedF (record { qp = qp; op = x }) → IsListedF (record { qp = qp; op = aimed z x })
+pub aimed_f : (qp : ℕ) (x : Op) (z : ℤ) → FitsSigned 21 z → IsListedF (record { qp = qp; op = x })
+    → IsListedF (record { qp = qp; op = aimed z x })
 aimed_f qp x z near l = of_row_f _ (row_aimed_f qp x z near (row_f _ l))
 
-row_aimed_x : (qp : ℕ) (x : Op) (z : ℤ) → AsRow rows_x (row_index_x (opcode_of (slot_op x))) (record { qp = qp; op = slot_op x }) → IsWithin x
+row_aimed_x : (qp : ℕ) (x : Op) (z : ℤ) → AsRow rows_x (row_index_x (opcode_of (slot_op x))) (record { qp = qp; op = slot_op x })
+    → IsWithin x
     → AsRow rows_x (row_index_x (opcode_of (slot_op (aimed z x)))) (record { qp = qp; op = slot_op (aimed z x) }) × IsWithin (aimed z x)
 unfolding rows_x listed
 row_aimed_x qp x z h within = grind arith
@@ -80,7 +91,8 @@ row_aimed_x qp x z h within = grind arith
 pub aimed_x : (qp : ℕ) (x : Op) (z : ℤ) → IsListedX (record { qp = qp; op = x }) → IsListedX (record { qp = qp; op = aimed z x })
 aimed_x qp x z l = let r = row_of_x _ l in let s = row_aimed_x qp x z r.0 r.1 in of_row_x _ s.0 s.1
 
-pub aimed_listed : (qp : ℕ) (x : Op) (z : ℤ) → FitsSigned 21 z → IsListed (record { qp = qp; op = x }) → IsListed (record { qp = qp; op = aimed z x })
+pub aimed_listed : (qp : ℕ) (x : Op) (z : ℤ) → FitsSigned 21 z → IsListed (record { qp = qp; op = x })
+    → IsListed (record { qp = qp; op = aimed z x })
 aimed_listed qp x z near (inl l) = inl (aimed_a qp x z near l)
 aimed_listed qp x z near (inr (inl l)) = inr (inl (aimed_i qp x z near l))
 aimed_listed qp x z near (inr (inr (inl l))) = inr (inr (inl (aimed_m qp x z near l)))

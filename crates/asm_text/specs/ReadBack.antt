@@ -20,4 +20,8 @@ untargeted x = x
 -- target where it has one, and its stop.
 abbrev pub printed_line : Insn → ℕ → Bool → Line
 printed_line i bundle stop =
-    line.Slot (record { insn = record { qp = i.qp; op = untargeted i.op }; target = option_map label_text (target_of bundle i.op); bare = false }) stop
+    line.Slot (record {
+      insn = record { qp = i.qp; op = untargeted i.op };
+      target = option_map label_text (target_of bundle i.op);
+      bare = false;
+    }) stop

@@ -19,7 +19,8 @@ byte-value zero n b rest small is = omega arith
 byte-value (suc i) n b rest small is = ap (λ q. q % 256) is ∙ mod-mul-add rest 256 b small
 
 next : (i n b rest : ℕ) → b < 256 → n / 256 ^ i ≡ rest * 256 + b → n / 256 ^ suc i ≡ rest
-next i n b rest small is = ap (λ q. n / q) (pow-suc 256 i) ∙ sym (div-div-eq-div-mul n (256 ^ i) 256) ∙ ap (λ q. q / 256) is ∙ div-mul-add rest 256 b small
+next i n b rest small is =
+    ap (λ q. n / q) (pow-suc 256 i) ∙ sym (div-div-eq-div-mul n (256 ^ i) 256) ∙ ap (λ q. q / 256) is ∙ div-mul-add rest 256 b small
 
 bytes-value : (bs : List ℕ) (i n : ℕ) → ((k : ℕ) → get_or bs k 0 < 256) → n / 256 ^ i ≡ value bs → bytes_low_first i (length bs) n ≡ bs
 bytes-value [] i n small is = refl
@@ -31,7 +32,8 @@ bytes-value (b ∷ bs) i n small is =
 -- The bytes of a number that bytes have are these bytes.
 pub back : (bs : List ℕ) (n : ℕ) → length bs ≡ 16 → ((k : ℕ) → get_or bs k 0 < 256) → from_le_bytes w128 bs ≡ n → to_le_bytes w128 n ≡ bs
 back bs n count small is =
-    ap (λ k. bytes_low_first 0 k n) (sym count) ∙ bytes-value bs 0 n small (let e : n / 256 ^ 0 ≡ value bs = omega (arith, from-value bs count) in e)
+    ap (λ k. bytes_low_first 0 k n) (sym count) ∙ bytes-value bs 0 n small
+    (let e : n / 256 ^ 0 ≡ value bs = omega (arith, from-value bs count) in e)
 
 byte-is : (i n : ℕ) → byte_at i n ≡ n / 256 ^ i % 256
 byte-is zero n = omega arith
@@ -51,7 +53,9 @@ value-bytes zero i n = omega arith
 value-bytes (suc k) i n =
     let p : 0 < 256 ^ k = one-le-pow k 256 (omega arith) in
     let shift : n / 256 ^ suc i ≡ n / 256 ^ i / 256 = ap (λ q. n / q) (pow-suc 256 i) ∙ sym (div-div-eq-div-mul n (256 ^ i) 256) in
-    ap (λ v. v * 256 + byte_at i n) (value-bytes k (suc i) n ∙ ap (λ q. q % 256 ^ k) shift) ∙ ap (λ b. n / 256 ^ i / 256 % 256 ^ k * 256 + b) (byte-is i n) ∙ longer (n / 256 ^ i) (256 ^ k) p ∙ ap (λ m. n / 256 ^ i % m) (sym (pow-suc 256 k))
+    ap (λ v. v * 256 + byte_at i n) (value-bytes k (suc i) n ∙ ap (λ q. q % 256 ^ k) shift)
+    ∙ ap (λ b. n / 256 ^ i / 256 % 256 ^ k * 256 + b) (byte-is i n) ∙ longer (n / 256 ^ i) (256 ^ k) p
+    ∙ ap (λ m. n / 256 ^ i % m) (sym (pow-suc 256 k))
 
 -- The number of a number's bytes.
 pub forth : (n : ℕ) → n < 2 ^ 128 → from_le_bytes w128 (to_le_bytes w128 n) ≡ n

@@ -5,12 +5,20 @@ use Rattle.bundle_bits.specs.declared.bundle.RawBundle.{RawBundle}
 
 -- What the code computes of a number.
 abbrev pub parts_of : ℕ → RawBundle
-parts_of n = record { template = n % 32; slots = n / 32 % 2199023255552 ∷ n / 32 / 2199023255552 % 2199023255552 ∷ n / 32 / 2199023255552 / 2199023255552 ∷ [] }
+parts_of n =
+    record {
+      template = n % 32;
+      slots = n / 32 % 2199023255552 ∷ n / 32 / 2199023255552 % 2199023255552 ∷ n / 32 / 2199023255552
+          / 2199023255552 ∷ [];
+    }
 
-digits : (t a b c n : ℕ) → t < 2 ^ 5 → a < 2 ^ 41 → b < 2 ^ 41 → t + a * 2 ^ 5 + b * 2 ^ 46 + c * 2 ^ 87 ≡ n → (t ≡ n % 32) × (a ≡ n / 32 % 2199023255552) × (b ≡ n / 32 / 2199023255552 % 2199023255552) × (c ≡ n / 32 / 2199023255552 / 2199023255552)
+digits : (t a b c n : ℕ) → t < 2 ^ 5 → a < 2 ^ 41 → b < 2 ^ 41 → t + a * 2 ^ 5 + b * 2 ^ 46 + c * 2 ^ 87 ≡ n
+    → (t ≡ n % 32) × (a ≡ n / 32 % 2199023255552) × (b ≡ n / 32 / 2199023255552 % 2199023255552)
+    × (c ≡ n / 32 / 2199023255552 / 2199023255552)
 digits t a b c n ht ha hb is = (omega arith, omega arith, omega arith, omega arith)
 
-same_parts : (t : ℕ) (slots : List ℕ) (n : ℕ) → HasWidths (record { template = t; slots = slots }) → bundle_number (record { template = t; slots = slots }) ≡ n → record { template = t; slots = slots } ≡ parts_of n
+same_parts : (t : ℕ) (slots : List ℕ) (n : ℕ) → HasWidths (record { template = t; slots = slots })
+    → bundle_number (record { template = t; slots = slots }) ≡ n → record { template = t; slots = slots } ≡ parts_of n
 same_parts t (a ∷ b ∷ c ∷ []) n parts is =
     let d = digits t a b c n parts.template parts.first parts.second is in
     λ i. record { template = d.0 i; slots = d.1 i ∷ d.2 i ∷ d.3 i ∷ [] }

@@ -63,14 +63,17 @@ which_call (Long a b) (inl h) = record { slot = 0; insn = a; there = refl; call 
 which_call (Long a b) (inr h) = record { slot = 1; insn = b; there = refl; call = h }
 
 -- A call with its target put in is one, by whatever it counts.
-call_of_item : (f g : ℕ → ℕ) (s : Loose) (n : ℕ) → IsLoose s → n < length s.items → IsSomeAnd (slice_get (targeted f s) n) (λ i. IsCall i.op)
+call_of_item : (f g : ℕ → ℕ) (s : Loose) (n : ℕ) → IsLoose s → n < length s.items
+    → IsSomeAnd (slice_get (targeted f s) n) (λ i. IsCall i.op)
     → IsSomeAnd (slice_get (targeted g s) n) (λ i. IsCall i.op)
 call_of_item f g s n loose less call =
     let it = item_at s n loose less in
     let here : IsCall (put f n it.item it.target).op = subst (λ (o : Option Insn). IsSomeAnd o (λ i. IsCall i.op)) (it.put_in f) call in
-    subst (λ (o : Option Insn). IsSomeAnd o (λ i. IsCall i.op)) (sym (it.put_in g)) ((call_put g (g n) it.item.insn.op it.target).0 ((call_put f (f n) it.item.insn.op it.target).1 here))
+    subst (λ (o : Option Insn). IsSomeAnd o (λ i. IsCall i.op)) (sym (it.put_in g))
+    ((call_put g (g n) it.item.insn.op it.target).0 ((call_put f (f n) it.item.insn.op it.target).1 here))
 
-item_calls : (f : ℕ → ℕ) (s : Loose) (n : ℕ) (item : Item) → IsLoose s → slice_get s.items n ≡ Some item → IsSomeAnd (slice_get (targeted f s) n) (λ i. IsCall i.op) → IsCall item.insn.op
+item_calls : (f : ℕ → ℕ) (s : Loose) (n : ℕ) (item : Item) → IsLoose s → slice_get s.items n ≡ Some item
+    → IsSomeAnd (slice_get (targeted f s) n) (λ i. IsCall i.op) → IsCall item.insn.op
 item_calls f s n item loose there call =
     let it = item_at s n loose (slice_get_within s.items n item there) in
     let here : IsCall (put f n it.item it.target).op = subst (λ (o : Option Insn). IsSomeAnd o (λ i. IsCall i.op)) (it.put_in f) call in
@@ -87,10 +90,12 @@ pub record EndsWithCall (s : Loose) (cs : List Chunk) (k : ℕ) : Type 0 where
 nop_calls_not : (i : Insn) → IsFiller i → IsCall i.op → ⊥
 nop_calls_not i (unit, nop) call = subst (λ (i : Insn). IsCall i.op) nop call
 
-ends_with_call : AreLayouts → (s : Loose) (cs : List Chunk) → IsLoose s → AreChunks cs s.items → (k : ℕ) (b : Bundle) → slice_get (bundles_of s cs) k ≡ Some b → HasCall b.slots
+ends_with_call : AreLayouts → (s : Loose) (cs : List Chunk) → IsLoose s → AreChunks cs s.items → (k : ℕ) (b : Bundle)
+    → slice_get (bundles_of s cs) k ≡ Some b → HasCall b.slots
     → EndsWithCall s cs k
 unfolding insn_at
-ends_with_call laws s cs loose are k b is has = of (fillers laws cs s.items (targeted (bundle_of cs) s) are (in_bundle k found.slot) found.insn here)
+ends_with_call laws s cs loose are k b is has =
+    of (fillers laws cs s.items (targeted (bundle_of cs) s) are (in_bundle k found.slot) found.insn here)
   where
     found : CallIn b.slots
     found = which_call b.slots has
@@ -102,13 +107,17 @@ ends_with_call laws s cs loose are k b is has = of (fillers laws cs s.items (tar
     of (inr nop) = absurd (nop_calls_not found.insn nop found.call)
     of (inl (n, less, same)) =
         let one = in_chunk cs s.items n are less in
-        let bundle : k ≡ one.bundle = ap (λ (p : Place). p.bundle) same ∙ bundle_there laws cs s.items n one.bundle one.offset one.chunk are one.at in
+        let bundle : k ≡ one.bundle =
+        ap (λ (p : Place). p.bundle) same ∙ bundle_there laws cs s.items n one.bundle one.offset one.chunk are one.at in
         let there : slice_get (targeted (bundle_of cs) s) n ≡ Some found.insn =
         sym (has_instructions laws s cs (bundle_of cs) n loose are less) ∙ ap (insn_at (bundles_of s cs)) (sym same) ∙ here
         in
-        let call : IsSomeAnd (slice_get (targeted (bundle_of cs) s) n) (λ i. IsCall i.op) = subst (λ (o : Option Insn). IsSomeAnd o (λ i. IsCall i.op)) (sym there) found.call in
+        let call : IsSomeAnd (slice_get (targeted (bundle_of cs) s) n) (λ i. IsCall i.op) =
+        subst (λ (o : Option Insn). IsSomeAnd o (λ i. IsCall i.op)) (sym there) found.call in
         let item = element s.items n less in
-        let last = call_is_last cs s.items n one.bundle one.offset one.chunk item.0 laws are one.at item.1 (item_calls (bundle_of cs) s n item.0 loose item.1 call) in
+        let last =
+        call_is_last cs s.items n one.bundle one.offset one.chunk item.0 laws are one.at item.1
+        (item_calls (bundle_of cs) s n item.0 loose item.1 call) in
         let behind = held-suc cs one.bundle one.chunk one.at.there in
         let number = one.at.number in
         record {
@@ -123,13 +132,18 @@ held_none : (cs : List Chunk) → held cs 0 ≡ 0
 held_none [] = refl
 held_none (c ∷ cs) = refl
 
-pub entry_from : AreLayouts → (s : Loose) (cs : List Chunk) → IsLoose s → AreChunks cs s.items → (bundle : ℕ) → IsEntryOf (bundles_of s cs) (map (bundle_of cs) s.entries) bundle
+pub entry_from : AreLayouts → (s : Loose) (cs : List Chunk) → IsLoose s → AreChunks cs s.items → (bundle : ℕ)
+    → IsEntryOf (bundles_of s cs) (map (bundle_of cs) s.entries) bundle
     → (n : ℕ) × IsSequenceEntry (sequence_of s) n × (bundle_of cs n ≡ bundle) × IsHead (place_of cs) n
 entry_from laws s cs loose are bundle entry =
     let chunk = element cs bundle (subst (λ m. bundle < m) (length-bundles cs (targeted (bundle_of cs) s)) entry.inside) in
     let first = first_there cs s.items bundle chunk.0 laws are chunk.1 in (
       held cs bundle,
-      record { inside = subst (λ m. held cs bundle < m) (sym (length-targeted itself 0 s.items s.targets loose.targets)) (below_all cs s.items (held cs bundle) bundle 0 chunk.0 laws are first); kind = kind bundle entry.kind },
+      record {
+        inside = subst (λ m. held cs bundle < m) (sym (length-targeted itself 0 s.items s.targets loose.targets))
+            (below_all cs s.items (held cs bundle) bundle 0 chunk.0 laws are first);
+        kind = kind bundle entry.kind;
+      },
       bundle_there laws cs s.items (held cs bundle) bundle 0 chunk.0 are first,
       first_is_head cs s.items (held cs bundle) bundle chunk.0 laws are first,
     )
@@ -145,13 +159,16 @@ entry_from laws s cs loose are bundle entry =
         subst (Contains s.entries) (number_of_first ∙ ap (held cs) same) contains
 
     kind : (bundle : ℕ) → (bundle ≡ 0) ⊎ (Contains (map (bundle_of cs) s.entries) bundle ⊎ IsAfterCall (bundles_of s cs) bundle)
-        → (held cs bundle ≡ 0) ⊎ (Contains s.entries (held cs bundle) ⊎ ((1 ≤ held cs bundle) × IsSomeAnd (slice_get (targeted itself s) (held cs bundle - 1)) (λ i. IsCall i.op)))
+        → (held cs bundle ≡ 0) ⊎ (Contains s.entries (held cs bundle)
+        ⊎ ((1 ≤ held cs bundle) × IsSomeAnd (slice_get (targeted itself s) (held cs bundle - 1)) (λ i. IsCall i.op)))
     kind bundle (inl first) = inl (ap (held cs) first ∙ held_none cs)
-    kind bundle (inr (inl contains)) = let found = from_map (bundle_of cs) s.entries bundle contains in inr (inl (declared bundle found.0 found.1 found.2))
+    kind bundle (inr (inl contains)) =
+        let found = from_map (bundle_of cs) s.entries bundle contains in inr (inl (declared bundle found.0 found.1 found.2))
     kind zero (inr (inr after)) = absurd (let some = after.0 in omega arith)
     kind (suc k) (inr (inr (some, call))) =
         let before : suc k - 1 ≡ k = omega arith in
-        inr (inr (behind (slice_get (bundles_of s cs) k) refl (subst (λ m. IsSomeAnd (slice_get (bundles_of s cs) m) (λ b. HasCall b.slots)) before call)))
+        inr (inr (behind (slice_get (bundles_of s cs) k) refl (subst (λ m. IsSomeAnd (slice_get (bundles_of s cs) m) (λ b. HasCall b.slots))
+        before call)))
       where
         behind : (o : Option Bundle) → slice_get (bundles_of s cs) k ≡ o → IsSomeAnd o (λ b. HasCall b.slots)
             → (1 ≤ held cs (suc k)) × IsSomeAnd (slice_get (targeted itself s) (held cs (suc k) - 1)) (λ i. IsCall i.op)
@@ -175,7 +192,8 @@ behind_call laws s cs loose are m more call =
     let bundle = bundle_there laws cs s.items (suc m) (suc one.bundle) 0 next.0 are next.1 in
     let place = placed laws cs s.items m one.bundle one.offset one.chunk are one.at in
     let insns = targeted (bundle_of cs) s in
-    let there : slot_insn (filled (layout_of one.chunk).0 (layout_of one.chunk).1 (part_of cs one.bundle one.chunk insns)).slots place.slot ≡ Some (put (bundle_of cs) m item.item item.target) =
+    let there : slot_insn (filled (layout_of one.chunk).0 (layout_of one.chunk).1 (part_of cs one.bundle one.chunk insns)).slots place.slot
+    ≡ Some (put (bundle_of cs) m item.item item.target) =
     sym (insn_there cs insns one.bundle place.slot one.chunk one.at.there) ∙ ap (insn_at (bundles_of s cs)) (sym place.place)
     ∙ has_instructions laws s cs (bundle_of cs) m loose are less ∙ item.put_in (bundle_of cs)
     in
@@ -184,7 +202,10 @@ behind_call laws s cs loose are m more call =
     let here : IsSomeAnd (slice_get (bundles_of s cs) one.bundle) (λ b. HasCall b.slots) =
     subst (λ (o : Option Bundle). IsSomeAnd o (λ b. HasCall b.slots)) (sym (bundle_at cs insns one.bundle one.chunk one.at.there)) has
     in
-    subst (IsAfterCall (bundles_of s cs)) (sym bundle) (omega arith, subst (λ m. IsSomeAnd (slice_get (bundles_of s cs) m) (λ b. HasCall b.slots)) (sym before) here)
+    subst (IsAfterCall (bundles_of s cs)) (sym bundle) (
+      omega arith,
+      subst (λ m. IsSomeAnd (slice_get (bundles_of s cs) m) (λ b. HasCall b.slots)) (sym before) here,
+    )
 
 pub entry_of : AreLayouts → (s : Loose) (cs : List Chunk) → IsLoose s → AreChunks cs s.items → (n : ℕ) → IsSequenceEntry (sequence_of s) n
     → IsEntryOf (bundles_of s cs) (map (bundle_of cs) s.entries) (bundle_of cs n) × IsHead (place_of cs) n
@@ -195,7 +216,9 @@ entry_of laws s cs loose are n entry =
     let known = kind n less one.bundle one.offset one.chunk one.at bundle entry.kind in
     let first : IsAt cs n one.bundle 0 one.chunk = subst (λ j. IsAt cs n one.bundle j one.chunk) known.0 one.at in (
       record {
-        inside = subst (λ m. bundle_of cs n < m) (sym (length-bundles cs (targeted (bundle_of cs) s))) (subst (λ m. m < length cs) (sym bundle) (slice_get_within cs one.bundle one.chunk one.at.there));
+        inside =
+            subst (λ m. bundle_of cs n < m) (sym (length-bundles cs (targeted (bundle_of cs) s)))
+            (subst (λ m. m < length cs) (sym bundle) (slice_get_within cs one.bundle one.chunk one.at.there));
         kind = known.1;
       },
       first_is_head cs s.items n one.bundle one.chunk laws are first,
@@ -203,24 +226,33 @@ entry_of laws s cs loose are n entry =
   where
     kind : (n : ℕ) → n < length s.items → (k j : ℕ) (c : Chunk) → IsAt cs n k j c → bundle_of cs n ≡ k
         → (n ≡ 0) ⊎ (Contains s.entries n ⊎ ((1 ≤ n) × IsSomeAnd (slice_get (targeted itself s) (n - 1)) (λ i. IsCall i.op)))
-        → (j ≡ 0) × ((bundle_of cs n ≡ 0) ⊎ (Contains (map (bundle_of cs) s.entries) (bundle_of cs n) ⊎ IsAfterCall (bundles_of s cs) (bundle_of cs n)))
+        → (j ≡ 0) × ((bundle_of cs n ≡ 0) ⊎ (Contains (map (bundle_of cs) s.entries) (bundle_of cs n)
+        ⊎ IsAfterCall (bundles_of s cs) (bundle_of cs n)))
     kind n less k j c at bundle (inl first) =
         let all = first_of_all cs k j c (subst (λ n. IsAt cs n k j c) first at) laws s.items are in (all.1, inl (bundle ∙ all.0))
-    kind n less k j c at bundle (inr (inl contains)) =
-        (begins_first cs s.items n k j c laws are at (loose.entries_break n contains), inr (inl (in_map (bundle_of cs) s.entries n contains)))
+    kind n less k j c at bundle (inr (inl contains)) = (
+      begins_first cs s.items n k j c laws are at (loose.entries_break n contains),
+      inr (inl (in_map (bundle_of cs) s.entries n contains)),
+    )
     kind zero less k j c at bundle (inr (inr after)) = absurd (let some = after.0 in omega arith)
     kind (suc m) less k j c at bundle (inr (inr (some, call))) =
         let before : suc m - 1 ≡ m = omega arith in
-        let here : IsSomeAnd (slice_get (targeted itself s) m) (λ i. IsCall i.op) = subst (λ m. IsSomeAnd (slice_get (targeted itself s) m) (λ i. IsCall i.op)) before call in
-        let item = element s.items m (omega arith) in
-        (behind_call_first cs s.items m k j c item.0 laws are at item.1 (item_calls itself s m item.0 loose item.1 here), inr (inr (behind_call laws s cs loose are m less here)))
+        let here : IsSomeAnd (slice_get (targeted itself s) m) (λ i. IsCall i.op) =
+        subst (λ m. IsSomeAnd (slice_get (targeted itself s) m) (λ i. IsCall i.op)) before call in
+        let item = element s.items m (omega arith) in (
+          behind_call_first cs s.items m k j c item.0 laws are at item.1 (item_calls itself s m item.0 loose item.1 here),
+          inr (inr (behind_call laws s cs loose are m less here)),
+        )
 
 -- It declares the same: relations are of instructions that begin bundles, which are told apart by their bundles.
-apart : AreLayouts → (s : Loose) (cs : List Chunk) → AreChunks cs s.items → (m n : ℕ) → BreaksAt s.items m → n < length s.items → IsHead (place_of cs) n
+apart : AreLayouts → (s : Loose) (cs : List Chunk) → AreChunks cs s.items → (m n : ℕ) → BreaksAt s.items m → n < length s.items
+    → IsHead (place_of cs) n
     → (m == n) ≡ (bundle_of cs m == bundle_of cs n)
 apart laws s cs are m n begins less head =
-    same_from_decides (m == n) (bundle_of cs m == bundle_of cs n) (Decides-eqb m n)
-    ((λ h. back ((Decides-eqb (bundle_of cs m) (bundle_of cs n)).0 h)), (λ h. (Decides-eqb (bundle_of cs m) (bundle_of cs n)).1 (ap (bundle_of cs) h)))
+    same_from_decides (m == n) (bundle_of cs m == bundle_of cs n) (Decides-eqb m n) (
+      (λ h. back ((Decides-eqb (bundle_of cs m) (bundle_of cs n)).0 h)),
+      (λ h. (Decides-eqb (bundle_of cs m) (bundle_of cs n)).1 (ap (bundle_of cs) h)),
+    )
   where
     back : bundle_of cs m ≡ bundle_of cs n → m ≡ n
     back same =
@@ -229,21 +261,25 @@ apart laws s cs are m n begins less head =
         let first = begins_first cs s.items m one.bundle one.offset one.chunk laws are one.at begins in
         let second = head_is_first cs s.items n two.bundle two.offset two.chunk laws are two.at head in
         let bundle : one.bundle ≡ two.bundle =
-        sym (bundle_there laws cs s.items m one.bundle one.offset one.chunk are one.at) ∙ same ∙ bundle_there laws cs s.items n two.bundle two.offset two.chunk are two.at
+        sym (bundle_there laws cs s.items m one.bundle one.offset one.chunk are one.at) ∙ same
+        ∙ bundle_there laws cs s.items n two.bundle two.offset two.chunk are two.at
         in
         let held_same = ap (held cs) bundle in
         let number = one.at.number in
         let other = two.at.number in omega arith
 
-relations_same : (f : ℕ → ℕ) (n : ℕ) (g : Pairs) (rs : List Relation) → ((k : ℕ) → k < length rs → ((relation_at rs k).bundle == n) ≡ (f (relation_at rs k).bundle == f n))
+relations_same : (f : ℕ → ℕ) (n : ℕ) (g : Pairs) (rs : List Relation)
+    → ((k : ℕ) → k < length rs → ((relation_at rs k).bundle == n) ≡ (f (relation_at rs k).bundle == f n))
     → with_relations g (relations_at rs n) ≡ with_relations g (relations_at (map (relation_moved f) rs) (f n))
 relations_same f n g [] same = refl
 relations_same f n g (r ∷ rs) same =
     of (r.bundle == n) (f r.bundle == f n) (same 0 (omega arith)) (λ g. relations_same f n g rs (λ k less. same (suc k) (omega arith)))
   where
-    of : (a b : Bool) → a ≡ b → ((g : Pairs) → with_relations g (relations_at rs n) ≡ with_relations g (relations_at (map (relation_moved f) rs) (f n)))
+    of : (a b : Bool) → a ≡ b → ((g : Pairs) → with_relations g (relations_at rs n)
+        ≡ with_relations g (relations_at (map (relation_moved f) rs) (f n)))
         → with_relations g (cond a (r ∷ relations_at rs n) (relations_at rs n))
-        ≡ with_relations g (cond b (relation_moved f r ∷ relations_at (map (relation_moved f) rs) (f n)) (relations_at (map (relation_moved f) rs) (f n)))
+        ≡ with_relations g (cond b (relation_moved f r ∷ relations_at (map (relation_moved f) rs) (f n))
+        (relations_at (map (relation_moved f) rs) (f n)))
     of true true e rest = rest (with_pair g r.p r.q)
     of false false e rest = rest g
     of true false e rest = absurd (cc)
@@ -258,4 +294,6 @@ unfolding known_at_entry
 knows_same laws s cs loose are n entry =
     let less : n < length s.items = subst (λ m. n < m) (length-targeted itself 0 s.items s.targets loose.targets) entry.inside in
     let head = (entry_of laws s cs loose are n entry).1 in
-    relations_same (bundle_of cs) n no_pairs s.relations (λ k inside. apart laws s cs are (relation_at s.relations k).bundle n (loose.relations_break (relation_at s.relations k) (relation_there s.relations k inside)) less head)
+    relations_same (bundle_of cs) n no_pairs s.relations (λ k inside.
+    apart laws s cs are (relation_at s.relations k).bundle n (loose.relations_break (relation_at s.relations k)
+    (relation_there s.relations k inside)) less head)

@@ -68,14 +68,16 @@ in_bundle_at s cs n h less =
     }
 
 -- The number of an instruction of a bundle.
-part_at : {X : Type 0} (cs : List Chunk) (xs : List X) (k j : ℕ) (c : Chunk) (x : X) → slice_get cs k ≡ Some c → slice_get (part_of cs k c xs) j ≡ Some x → IsAt cs (held cs k + j) k j c
+part_at : {X : Type 0} (cs : List Chunk) (xs : List X) (k j : ℕ) (c : Chunk) (x : X) → slice_get cs k ≡ Some c
+    → slice_get (part_of cs k c xs) j ≡ Some x → IsAt cs (held cs k + j) k j c
 part_at cs xs k j c x there at =
     let within = slice_get_within (part_of cs k c xs) j x at in
     record { there = there; inside = omega (arith, within, length-take (length c.wanted) (drop (held cs k) xs)); number = refl }
 
 -- The instructions of a bundle are of the classes that are wanted.
 are_of : (ws : List Wanted) (items : List Item) (is : List Insn) → Holds ws items → length is ≡ length items
-    → ((j : ℕ) (item : Item) (i : Insn) → slice_get items j ≡ Some item → slice_get is j ≡ Some i → IsListed i × (class_of i.op ≡ class_of item.insn.op)) → AreOf ws is
+    → ((j : ℕ) (item : Item) (i : Insn) → slice_get items j ≡ Some item → slice_get is j ≡ Some i
+    → IsListed i × (class_of i.op ≡ class_of item.insn.op)) → AreOf ws is
 are_of [] [] [] holds same all = tt
 are_of [] [] (i ∷ is) holds same all = absurd (omega arith)
 are_of [] (item ∷ items) is holds same all = absurd holds
@@ -85,24 +87,34 @@ are_of (w ∷ ws) (item ∷ items) (i ∷ is) (class, holds) same all =
     let here = all 0 item i refl refl in
     (here.0, here.1 ∙ sym class, are_of ws items is holds (omega arith) (λ j x y at there. all (suc j) x y at there))
 
-part_length : {X Y : Type 0} (cs : List Chunk) (k : ℕ) (c : Chunk) (xs : List X) (ys : List Y) → length xs ≡ length ys → length (part_of cs k c xs) ≡ length (part_of cs k c ys)
+part_length : {X Y : Type 0} (cs : List Chunk) (k : ℕ) (c : Chunk) (xs : List X) (ys : List Y) → length xs ≡ length ys
+    → length (part_of cs k c xs) ≡ length (part_of cs k c ys)
 part_length cs k c xs ys same =
-    omega (arith, length-take (length c.wanted) (drop (held cs k) xs), length-take (length c.wanted) (drop (held cs k) ys), length-drop (held cs k) xs, length-drop (held cs k) ys)
+    omega (
+      arith,
+      length-take (length c.wanted) (drop (held cs k) xs),
+      length-take (length c.wanted) (drop (held cs k) ys),
+      length-drop (held cs k) xs,
+      length-drop (held cs k) ys,
+    )
 
-part_is_of : (s : Loose) (cs : List Chunk) (k : ℕ) (c : Chunk) → IsBundling s cs → slice_get cs k ≡ Some c → AreOf c.wanted (part_of cs k c (targeted (bundle_of cs) s))
+part_is_of : (s : Loose) (cs : List Chunk) (k : ℕ) (c : Chunk) → IsBundling s cs → slice_get cs k ≡ Some c
+    → AreOf c.wanted (part_of cs k c (targeted (bundle_of cs) s))
 part_is_of s cs k c h there =
     let insns = targeted (bundle_of cs) s in
     let chunk = (put_at h.laws cs s.items k c h.are.chunks there).chunk in
     let same = part_length cs k c insns s.items (length-targeted (bundle_of cs) 0 s.items s.targets h.loose.targets) in
     are_of c.wanted (part_of cs k c s.items) (part_of cs k c insns) chunk.holds same each
   where
-    each : (j : ℕ) (item : Item) (i : Insn) → slice_get (part_of cs k c s.items) j ≡ Some item → slice_get (part_of cs k c (targeted (bundle_of cs) s)) j ≡ Some i
+    each : (j : ℕ) (item : Item) (i : Insn) → slice_get (part_of cs k c s.items) j ≡ Some item
+        → slice_get (part_of cs k c (targeted (bundle_of cs) s)) j ≡ Some i
         → IsListed i × (class_of i.op ≡ class_of item.insn.op)
     each j item i at put =
         let n = held cs k + j in
         let in_chunk = part_at cs s.items k j c item there at in
         let one : slice_get s.items n ≡ Some item = sym (part_there cs s.items n k j c in_chunk) ∙ at in
-        let two : slice_get (targeted (bundle_of cs) s) n ≡ Some i = sym (part_there cs (targeted (bundle_of cs) s) n k j c in_chunk) ∙ put in
+        let two : slice_get (targeted (bundle_of cs) s) n ≡ Some i =
+        sym (part_there cs (targeted (bundle_of cs) s) n k j c in_chunk) ∙ put in
         let good = in_bundle_at s cs n h (slice_get_within s.items n item one) in
         let same : good.item ≡ item = same_Some good.item item (sym good.there ∙ one) in
         let alike : good.insn ≡ i = same_Some good.insn i (sym good.put ∙ two) in (
@@ -115,7 +127,8 @@ fit_at : (s : Loose) (cs : List Chunk) (k : ℕ) (c : Chunk) → IsBundling s cs
 fit_at s cs k c h there =
     let put = put_at h.laws cs s.items k c h.are.chunks there in
     let layout = layout_of c in
-    (h.filled c.wanted c.end layout.0 layout.1 (part_of cs k c (targeted (bundle_of cs) s)) (h.laws.is_layout c.wanted c.end layout.0 layout.1 put.laid) (part_is_of s cs k c h there)).1
+    (h.filled c.wanted c.end layout.0 layout.1 (part_of cs k c (targeted (bundle_of cs) s))
+    (h.laws.is_layout c.wanted c.end layout.0 layout.1 put.laid) (part_is_of s cs k c h there)).1
 
 -- Each bundle fits its template.
 pub bundles_fit : (s : Loose) (cs : List Chunk) → IsBundling s cs → AreBundles (program_of s cs).bundles
@@ -124,7 +137,8 @@ bundles_fit s cs h n = of (cases_lt n (length cs))
     of : (n < length cs) ⊎ (length cs ≤ n) → IfSome (slice_get (program_of s cs).bundles n) IsBundle
     of (inl less) =
         let c = element cs n less in
-        subst (λ (o : Option Bundle). IfSome o IsBundle) (sym (bundle_at cs (targeted (bundle_of cs) s) n c.0 c.1)) (fit_at s cs n c.0 h c.1)
+        subst (λ (o : Option Bundle). IfSome o IsBundle) (sym (bundle_at cs (targeted (bundle_of cs) s) n c.0 c.1))
+        (fit_at s cs n c.0 h c.1)
     of (inr past) =
         let count = length-bundles cs (targeted (bundle_of cs) s) in
         subst (λ (o : Option Bundle). IfSome o IsBundle) (sym (slice_get_past (program_of s cs).bundles n (omega (arith, count, past)))) tt
@@ -148,10 +162,12 @@ AllSlots P (Long first long) = P first × P long
 contents_all : (P : Insn → Type 0) → ((u : ExecutionUnit) → P (nop_of u)) → (us : List ExecutionUnit) (ks : List ℕ) (is : List Insn)
     → ((j : ℕ) (i : Insn) → slice_get is j ≡ Some i → P i) → AllSlots P (contents us ks is)
 contents_all P nop (u ∷ units.L ∷ x ∷ []) ks is all = (content_all P nop 0 u ks is all, content_all P nop 1 units.L ks is all)
-contents_all P nop (u ∷ v ∷ w ∷ []) ks is all = (content_all P nop 0 u ks is all, content_all P nop 1 v ks is all, content_all P nop 2 w ks is all)
+contents_all P nop (u ∷ v ∷ w ∷ []) ks is all =
+    (content_all P nop 0 u ks is all, content_all P nop 1 v ks is all, content_all P nop 2 w ks is all)
 contents_all P nop us ks is all = (nop units.M, nop units.M, nop units.M)
 
-if_slot : (P : Insn → Type 0) (here : Bool) (i : Insn) (other : Option Insn) → P i → IfSome other P → IfSome (if here then Some i else other) P
+if_slot : (P : Insn → Type 0) (here : Bool) (i : Insn) (other : Option Insn) → P i → IfSome other P
+    → IfSome (if here then Some i else other) P
 if_slot P true i other p q = p
 if_slot P false i other p q = q
 
@@ -178,7 +194,8 @@ part_inside s cs k j c i h there at =
     (subst (λ (i : Insn). IfSome (displacement i.op) (IsBundleAt (length cs) (bundle_of cs n))) alike good.is.target)
 
 -- Each target is one of the bundles.
-pub targets_inside : (s : Loose) (cs : List Chunk) → IsBundling s cs → EachPlace (program_of s cs).bundles (IsTargetInside (program_of s cs).bundles)
+pub targets_inside : (s : Loose) (cs : List Chunk) → IsBundling s cs
+    → EachPlace (program_of s cs).bundles (IsTargetInside (program_of s cs).bundles)
 targets_inside s cs h place is =
     let insns = targeted (bundle_of cs) s in
     let count : length (program_of s cs).bundles ≡ length cs = length-bundles cs insns in
@@ -186,7 +203,10 @@ targets_inside s cs h place is =
     let c = element cs place.bundle (omega (arith, small, count)) in
     let layout = layout_of c.0 in
     let Inside = λ (i : Insn). IfSome (displacement i.op) (IsBundleAt (length cs) place.bundle) in
-    let all = contents_all Inside (nop_inside (length cs) place.bundle) (units_of layout.0) layout.1 (part_of cs place.bundle c.0 insns) (λ j i at. part_inside s cs place.bundle j c.0 i h c.1 at) in
-    subst (λ (n : ℕ). IfSome (insn_at (program_of s cs).bundles place) (λ i. IfSome (displacement i.op) (IsBundleAt n place.bundle))) (sym count)
+    let all =
+    contents_all Inside (nop_inside (length cs) place.bundle) (units_of layout.0) layout.1 (part_of cs place.bundle c.0 insns)
+    (λ j i at. part_inside s cs place.bundle j c.0 i h c.1 at) in
+    subst (λ (n : ℕ). IfSome (insn_at (program_of s cs).bundles place) (λ i. IfSome (displacement i.op) (IsBundleAt n place.bundle)))
+    (sym count)
     (subst (λ (o : Option Insn). IfSome o Inside) (sym (insn_there cs insns place.bundle place.slot c.0 c.1))
     (slot_all Inside (filled layout.0 layout.1 (part_of cs place.bundle c.0 insns)).slots place.slot all))

@@ -60,7 +60,8 @@ jump_rule : (a b : ℤ) (e : Edge) (g p q : ℕ) → action_rule (action.Jump a)
 jump_rule a b Falls g p q = refl
 jump_rule a b Taken g p q = refl
 
-call_rule : (b1 : ℕ) (a b : CallTarget) (e : Edge) (g p q : ℕ) → action_rule (action.Call b1 a) e g p q ≡ action_rule (action.Call b1 b) e g p q
+call_rule : (b1 : ℕ) (a b : CallTarget) (e : Edge) (g p q : ℕ)
+    → action_rule (action.Call b1 a) e g p q ≡ action_rule (action.Call b1 b) e g p q
 call_rule b1 a b Falls g p q = refl
 call_rule b1 a b Taken g p q = refl
 
@@ -70,7 +71,8 @@ like_addressed qp (op.ChkS unit r2 disp) (Bundle m) n = alike qp _ _ refl refl (
 like_addressed qp (op.ChkA clear r1 disp) (Bundle m) n = alike qp _ _ refl refl (λ e g p q. refl) refl refl
 like_addressed qp (op.Br branch.Cond wh many clr disp) (Bundle m) n = alike qp _ _ refl refl (jump_rule disp (pos m -ℤ pos n)) refl refl
 like_addressed qp (op.Br kind wh many clr disp) (Bundle m) n = alike qp _ _ refl refl (λ e g p q. refl) refl refl
-like_addressed qp (op.BrCall b1 wh many clr disp) (Bundle m) n = alike qp _ _ refl refl (call_rule b1 (callee.Direct disp) (callee.Direct (pos m -ℤ pos n))) refl refl
+like_addressed qp (op.BrCall b1 wh many clr disp) (Bundle m) n =
+    alike qp _ _ refl refl (call_rule b1 (callee.Direct disp) (callee.Direct (pos m -ℤ pos n))) refl refl
 like_addressed qp (op.Movl r1 imm) (Bundle m) n = alike qp _ _ refl refl (λ e g p q. refl) refl refl
 like_addressed qp (op.Movl r1 imm) (Byte at) n = alike qp _ _ refl refl (λ e g p q. refl) refl refl
 like_addressed qp x a n = like_itself (under qp x)
@@ -85,8 +87,10 @@ pub like_puts : (f g : ℕ → ℕ) (own other : ℕ) (i : Insn) (target : Optio
 like_puts f g own other i target = like_both i _ _ (like_put f own i target) (like_put g other i target)
 
 -- An instruction with its target put in allocates or clears exactly where its item does.
-pub allocates_put : (f : ℕ → ℕ) (own : ℕ) (i : Insn) (target : Option Address) → is_alloc (action_of (put_in f own i.op target)) ≡ is_alloc (action_of i.op)
+pub allocates_put : (f : ℕ → ℕ) (own : ℕ) (i : Insn) (target : Option Address)
+    → is_alloc (action_of (put_in f own i.op target)) ≡ is_alloc (action_of i.op)
 allocates_put f own i target = sym (like_put f own i target).allocates
 
-pub clears_put : (f : ℕ → ℕ) (own : ℕ) (i : Insn) (target : Option Address) → clears (action_of (put_in f own i.op target)) ≡ clears (action_of i.op)
+pub clears_put : (f : ℕ → ℕ) (own : ℕ) (i : Insn) (target : Option Address)
+    → clears (action_of (put_in f own i.op target)) ≡ clears (action_of i.op)
 clears_put f own i target = sym (like_put f own i target).clears

@@ -59,7 +59,8 @@ held-suc (d ∷ cs) (suc k) c there = let rest = held-suc cs k c there in omega 
 pub held_later : (cs : List Chunk) (k l : ℕ) (c : Chunk) → slice_get cs k ≡ Some c → k < l → held cs k + length c.wanted ≤ held cs l
 held_later [] k l c there less = absurd (cc)
 held_later (d ∷ cs) k zero c there less = absurd (omega arith)
-held_later (d ∷ cs) zero (suc l) c there less = let same : length d.wanted ≡ length c.wanted = ap (λ (c : Chunk). length c.wanted) (same_Some d c there) in omega arith
+held_later (d ∷ cs) zero (suc l) c there less =
+    let same : length d.wanted ≡ length c.wanted = ap (λ (c : Chunk). length c.wanted) (same_Some d c there) in omega arith
 held_later (d ∷ cs) (suc k) (suc l) c there less = let rest = held_later cs k l c there (omega arith) in omega arith
 
 -- A chunk has instructions, and a slot for each.
@@ -106,7 +107,8 @@ chunk_there : (cs : List Chunk) (items : List Item) (k : ℕ) (c : Chunk) → Ar
 chunk_there [] items k c are there = absurd (cc)
 chunk_there (d ∷ cs) items zero c (is, are) there =
     let same : d ≡ c = same_Some d c there in
-    subst (λ (c : Chunk). IsChunk c (take (length c.wanted) items) × (0 + length c.wanted ≤ length items)) same (is, (let room = fits d items is in omega arith))
+    subst (λ (c : Chunk). IsChunk c (take (length c.wanted) items) × (0 + length c.wanted ≤ length items)) same
+    (is, (let room = fits d items is in omega arith))
 chunk_there (d ∷ cs) items (suc k) c (is, are) there =
     let room = fits d items is in
     let rest = chunk_there cs (drop (length d.wanted) items) k c are there in (
@@ -114,7 +116,8 @@ chunk_there (d ∷ cs) items (suc k) c (is, are) there =
       (let less = rest.1 in omega (arith, length-drop (length d.wanted) items)),
     )
 
-pub put_at : AreLayouts → (cs : List Chunk) (items : List Item) (k : ℕ) (c : Chunk) → AreChunks cs items → slice_get cs k ≡ Some c → IsPut cs items k c
+pub put_at : AreLayouts → (cs : List Chunk) (items : List Item) (k : ℕ) (c : Chunk) → AreChunks cs items → slice_get cs k ≡ Some c
+    → IsPut cs items k c
 put_at laws cs items k c are there =
     let is = chunk_there cs items k c are there in
     let count = counted laws c is.0.laid in
@@ -135,7 +138,8 @@ in_chunk [] [] n are less = absurd (omega arith)
 in_chunk [] (item ∷ items) n are less = absurd are
 in_chunk (c ∷ cs) items n (is, are) less = of (below_or n (length c.wanted)) (λ m. in_chunk cs (drop (length c.wanted) items) m are)
   where
-    of : (n < length c.wanted) ⊎ ((m : ℕ) × (length c.wanted + m ≡ n)) → ((m : ℕ) → m < length (drop (length c.wanted) items) → InChunk cs m) → InChunk (c ∷ cs) n
+    of : (n < length c.wanted) ⊎ ((m : ℕ) × (length c.wanted + m ≡ n))
+        → ((m : ℕ) → m < length (drop (length c.wanted) items) → InChunk cs m) → InChunk (c ∷ cs) n
     of (inl h) later = record { bundle = 0; offset = n; chunk = c; at = record { there = refl; inside = h; number = omega arith } }
     of (inr (m, e)) later =
         let room = fits c items is in
@@ -148,7 +152,8 @@ in_chunk (c ∷ cs) items n (is, are) less = of (below_or n (length c.wanted)) (
         }
 
 -- Chunks rise with the numbers.
-pub chunks_rise : (cs : List Chunk) (n m k l j i : ℕ) (c d : Chunk) → IsAt cs n k j c → IsAt cs m l i d → n < m → (k < l) ⊎ ((k ≡ l) × (j < i))
+pub chunks_rise : (cs : List Chunk) (n m k l j i : ℕ) (c d : Chunk) → IsAt cs n k j c → IsAt cs m l i d → n < m
+    → (k < l) ⊎ ((k ≡ l) × (j < i))
 chunks_rise cs n m k l j i c d one two less = of (cases_order k l)
   where
     of : (k ≡ l) ⊎ ((k < l) ⊎ (l < k)) → (k < l) ⊎ ((k ≡ l) × (j < i))
@@ -187,7 +192,8 @@ pub record IsInLayout (cs : List Chunk) (n k j : ℕ) (c : Chunk) : Type 0 where
   pub there : slice_get (layout_of c).1 j ≡ Some slot
   pub place : place_of cs n ≡ in_bundle k slot
 
-place_there : AreLayouts → (cs : List Chunk) (items : List Item) (first k j slot : ℕ) (c : Chunk) → AreChunks cs items → slice_get cs k ≡ Some c → slice_get (layout_of c).1 j ≡ Some slot
+place_there : AreLayouts → (cs : List Chunk) (items : List Item) (first k j slot : ℕ) (c : Chunk) → AreChunks cs items
+    → slice_get cs k ≡ Some c → slice_get (layout_of c).1 j ≡ Some slot
     → slice_get (places_from first cs) (held cs k + j) ≡ Some (in_bundle (first + k) slot)
 place_there laws [] items first k j slot c are there at = absurd (cc)
 place_there laws (d ∷ cs) items first zero j slot c (is, are) there at =
@@ -196,19 +202,22 @@ place_there laws (d ∷ cs) items first zero j slot c (is, are) there at =
     let less = slice_get_within (layout_of d).1 j slot here in
     let places : List Place = map (in_bundle first) (layout_of d).1 in
     ap (slice_get (places ++ places_from (first + 1) cs)) (let zero_and : 0 + j ≡ j = omega arith in zero_and)
-    ∙ slice_get-append_left places (places_from (first + 1) cs) j (subst (λ m. j < m) (sym (length-map (layout_of d).1 (in_bundle first))) less)
+    ∙ slice_get-append_left places (places_from (first + 1) cs) j
+    (subst (λ m. j < m) (sym (length-map (layout_of d).1 (in_bundle first))) less)
     ∙ slice_get-map (in_bundle first) (layout_of d).1 j
     ∙ ap (option_map (in_bundle first)) here
     ∙ ap (λ (n : ℕ). Some (in_bundle n slot)) (let and_zero : first ≡ first + 0 = omega arith in and_zero)
 place_there laws (d ∷ cs) items first (suc k) j slot c (is, are) there at =
     let places : List Place = map (in_bundle first) (layout_of d).1 in
     let count : length d.wanted ≡ length places = sym (length-map (layout_of d).1 (in_bundle first) ∙ (counted laws d is.laid).0) in
-    ap (slice_get (places ++ places_from (first + 1) cs)) (let number : length d.wanted + held cs k + j ≡ length places + (held cs k + j) = omega arith in number)
+    ap (slice_get (places ++ places_from (first + 1) cs)) (let number : length d.wanted + held cs k + j
+    ≡ length places + (held cs k + j) = omega arith in number)
     ∙ slice_get-append_right places (places_from (first + 1) cs) (held cs k + j)
     ∙ place_there laws cs (drop (length d.wanted) items) (first + 1) k j slot c are there at
     ∙ ap (λ (n : ℕ). Some (in_bundle n slot)) (let next : first + 1 + k ≡ first + suc k = omega arith in next)
 
-pub placed : AreLayouts → (cs : List Chunk) (items : List Item) (n k j : ℕ) (c : Chunk) → AreChunks cs items → IsAt cs n k j c → IsInLayout cs n k j c
+pub placed : AreLayouts → (cs : List Chunk) (items : List Item) (n k j : ℕ) (c : Chunk) → AreChunks cs items → IsAt cs n k j c
+    → IsInLayout cs n k j c
 unfolding place_of
 placed laws cs items n k j c are at =
     let put = put_at laws cs items k c are at.there in
@@ -218,11 +227,13 @@ placed laws cs items n k j c are at =
       slot = found.0;
       there = found.1;
       place = get_or_from_slice_get (places_of cs) n (in_bundle k found.0) (first_of 0)
-          (ap (slice_get (places_of cs)) (sym at.number) ∙ place ∙ ap (λ (n : ℕ). Some (in_bundle n found.0)) (let zero_and : 0 + k ≡ k = omega arith in zero_and));
+          (ap (slice_get (places_of cs)) (sym at.number) ∙ place ∙ ap (λ (n : ℕ). Some (in_bundle n found.0))
+          (let zero_and : 0 + k ≡ k = omega arith in zero_and));
     }
 
 -- There are as many places as instructions.
-pub length-places : AreLayouts → (cs : List Chunk) (items : List Item) (first : ℕ) → AreChunks cs items → length (places_from first cs) ≡ length items
+pub length-places : AreLayouts → (cs : List Chunk) (items : List Item) (first : ℕ) → AreChunks cs items
+    → length (places_from first cs) ≡ length items
 length-places laws [] [] first are = refl
 length-places laws [] (item ∷ items) first are = absurd are
 length-places laws (c ∷ cs) items first (is, are) =
@@ -233,14 +244,17 @@ length-places laws (c ∷ cs) items first (is, are) =
     omega (arith, length-append places (places_from (first + 1) cs), length-drop (length c.wanted) items)
 
 -- Whose bundle is that of its chunk.
-pub bundle_there : AreLayouts → (cs : List Chunk) (items : List Item) (n k j : ℕ) (c : Chunk) → AreChunks cs items → IsAt cs n k j c → bundle_of cs n ≡ k
+pub bundle_there : AreLayouts → (cs : List Chunk) (items : List Item) (n k j : ℕ) (c : Chunk) → AreChunks cs items → IsAt cs n k j c
+    → bundle_of cs n ≡ k
 bundle_there laws cs items n k j c are at = ap (λ (p : Place). p.bundle) (placed laws cs items n k j c are at).place
 
 -- What the chunk says of it.
-pub part_there : {X : Type 0} (cs : List Chunk) (xs : List X) (n k j : ℕ) (c : Chunk) → IsAt cs n k j c → slice_get (part_of cs k c xs) j ≡ slice_get xs n
+pub part_there : {X : Type 0} (cs : List Chunk) (xs : List X) (n k j : ℕ) (c : Chunk) → IsAt cs n k j c
+    → slice_get (part_of cs k c xs) j ≡ slice_get xs n
 part_there cs xs n k j c at = slice_get-part (length c.wanted) (held cs k) xs j at.inside ∙ ap (slice_get xs) at.number
 
-class_at : (ws : List Wanted) (items : List Item) (j : ℕ) (w : Wanted) (item : Item) → Holds ws items → slice_get ws j ≡ Some w → slice_get items j ≡ Some item
+class_at : (ws : List Wanted) (items : List Item) (j : ℕ) (w : Wanted) (item : Item) → Holds ws items → slice_get ws j ≡ Some w
+    → slice_get items j ≡ Some item
     → w.class ≡ class_of item.insn.op
 class_at [] items j w item h at there = absurd (cc)
 class_at (v ∷ ws) [] j w item h at there = absurd h
@@ -250,10 +264,12 @@ class_at (v ∷ ws) (x ∷ items) zero w item (is, h) at there =
     ap (λ (w : Wanted). w.class) (sym first) ∙ is ∙ ap (λ (item : Item). class_of item.insn.op) second
 class_at (v ∷ ws) (x ∷ items) (suc j) w item (is, h) at there = class_at ws items j w item h at there
 
-pub class_there : AreLayouts → (cs : List Chunk) (items : List Item) (n k j : ℕ) (c : Chunk) (w : Wanted) (item : Item) → AreChunks cs items → IsAt cs n k j c
+pub class_there : AreLayouts → (cs : List Chunk) (items : List Item) (n k j : ℕ) (c : Chunk) (w : Wanted) (item : Item) → AreChunks cs items
+    → IsAt cs n k j c
     → slice_get c.wanted j ≡ Some w → slice_get items n ≡ Some item → w.class ≡ class_of item.insn.op
 class_there laws cs items n k j c w item are at wanted there =
-    class_at c.wanted (part_of cs k c items) j w item (put_at laws cs items k c are at.there).chunk.holds wanted (part_there cs items n k j c at ∙ there)
+    class_at c.wanted (part_of cs k c items) j w item (put_at laws cs items k c are at.there).chunk.holds wanted
+    (part_there cs items n k j c at ∙ there)
 
 together_at : (items : List Item) (j : ℕ) (x y : Item) → KeepTogether items → slice_get items j ≡ Some x → slice_get items (suc j) ≡ Some y
     → (y.breaks ≡ false) × ¬ IsCall x.insn.op
@@ -267,7 +283,8 @@ together_at (a ∷ b ∷ items) zero x y (whole, goes_on, h) at next =
 together_at (a ∷ b ∷ items) (suc j) x y (whole, goes_on, h) at next = together_at (b ∷ items) j x y h at next
 
 -- The one behind another in a bundle doesn't begin one, and the other is no call.
-pub together : AreLayouts → (cs : List Chunk) (items : List Item) (n k j : ℕ) (c : Chunk) (x y : Item) → AreChunks cs items → IsAt cs (suc n) k (suc j) c
+pub together : AreLayouts → (cs : List Chunk) (items : List Item) (n k j : ℕ) (c : Chunk) (x y : Item) → AreChunks cs items
+    → IsAt cs (suc n) k (suc j) c
     → slice_get items n ≡ Some x → slice_get items (suc n) ≡ Some y → (y.breaks ≡ false) × ¬ IsCall x.insn.op
 together laws cs items n k j c x y are at there next =
     let number = at.number in
@@ -287,7 +304,8 @@ whole (c ∷ cs) items (is, are) =
     let rest = whole cs (drop (length c.wanted) items) are in
     let room = fits c items is in omega (arith, length-drop (length c.wanted) items)
 
-pub next_first : (cs : List Chunk) (items : List Item) (n k j : ℕ) (c : Chunk) → AreLayouts → AreChunks cs items → IsAt cs n k j c → suc j ≡ length c.wanted → suc n < length items
+pub next_first : (cs : List Chunk) (items : List Item) (n k j : ℕ) (c : Chunk) → AreLayouts → AreChunks cs items → IsAt cs n k j c
+    → suc j ≡ length c.wanted → suc n < length items
     → (d : Chunk) × IsAt cs (suc n) (suc k) 0 d
 next_first cs items n k j c laws are at last more =
     let number = at.number in
@@ -297,14 +315,16 @@ next_first cs items n k j c laws are at last more =
     let found = element cs (suc k) (below (cases_lt (suc k) (length cs)) within all behind number) in
     (found.0, record { there = found.1; inside = (put_at laws cs items (suc k) found.0 are found.1).some; number = omega arith })
   where
-    below : (suc k < length cs) ⊎ (length cs ≤ suc k) → k < length cs → held cs (length cs) ≡ length items → held cs (suc k) ≡ held cs k + length c.wanted → held cs k + j ≡ n → suc k < length cs
+    below : (suc k < length cs) ⊎ (length cs ≤ suc k) → k < length cs → held cs (length cs) ≡ length items
+        → held cs (suc k) ≡ held cs k + length c.wanted → held cs k + j ≡ n → suc k < length cs
     below (inl h) within all behind number = h
     below (inr h) within all behind number =
         let end : length cs ≡ suc k = omega arith in
         let same : held cs (length cs) ≡ held cs (suc k) = ap (held cs) end in absurd (omega arith)
 
 -- The last instruction is the last of the last bundle.
-pub last_of_all : (cs : List Chunk) (items : List Item) (n k j : ℕ) (c : Chunk) → AreLayouts → AreChunks cs items → IsAt cs n k j c → suc n ≡ length items
+pub last_of_all : (cs : List Chunk) (items : List Item) (n k j : ℕ) (c : Chunk) → AreLayouts → AreChunks cs items → IsAt cs n k j c
+    → suc n ≡ length items
     → (suc j ≡ length c.wanted) × (suc k ≡ length cs)
 last_of_all cs items n k j c laws are at last =
     let number = at.number in
@@ -313,7 +333,8 @@ last_of_all cs items n k j c laws are at last =
     let within = slice_get_within cs k c at.there in
     (omega arith, end (cases_lt (suc k) (length cs)) within number inside (held-suc cs k c at.there))
   where
-    end : (suc k < length cs) ⊎ (length cs ≤ suc k) → k < length cs → held cs k + j ≡ n → j < length c.wanted → held cs (suc k) ≡ held cs k + length c.wanted → suc k ≡ length cs
+    end : (suc k < length cs) ⊎ (length cs ≤ suc k) → k < length cs → held cs k + j ≡ n → j < length c.wanted
+        → held cs (suc k) ≡ held cs k + length c.wanted → suc k ≡ length cs
     end (inl h) within number inside behind =
         let next = element cs (suc k) h in
         let put = put_at laws cs items (suc k) next.0 are next.1 in
@@ -322,16 +343,19 @@ last_of_all cs items n k j c laws are at last =
     end (inr h) within number inside behind = omega arith
 
 -- Which instruction is the first of its bundle: one that begins a bundle, and one behind a call.
-pub first_there : (cs : List Chunk) (items : List Item) (k : ℕ) (c : Chunk) → AreLayouts → AreChunks cs items → slice_get cs k ≡ Some c → IsAt cs (held cs k) k 0 c
+pub first_there : (cs : List Chunk) (items : List Item) (k : ℕ) (c : Chunk) → AreLayouts → AreChunks cs items → slice_get cs k ≡ Some c
+    → IsAt cs (held cs k) k 0 c
 first_there cs items k c laws are there = record { there = there; inside = (put_at laws cs items k c are there).some; number = omega arith }
 
-pub below_all : (cs : List Chunk) (items : List Item) (n k j : ℕ) (c : Chunk) → AreLayouts → AreChunks cs items → IsAt cs n k j c → n < length items
+pub below_all : (cs : List Chunk) (items : List Item) (n k j : ℕ) (c : Chunk) → AreLayouts → AreChunks cs items → IsAt cs n k j c
+    → n < length items
 below_all cs items n k j c laws are at =
     let room = (put_at laws cs items k c are at.there).within in
     let number = at.number in
     let inside = at.inside in omega arith
 
-pub first_is_head : (cs : List Chunk) (items : List Item) (n k : ℕ) (c : Chunk) → AreLayouts → AreChunks cs items → IsAt cs n k 0 c → IsHead (place_of cs) n
+pub first_is_head : (cs : List Chunk) (items : List Item) (n k : ℕ) (c : Chunk) → AreLayouts → AreChunks cs items → IsAt cs n k 0 c
+    → IsHead (place_of cs) n
 first_is_head cs items n k c laws are at m less =
     let small = below_all cs items n k 0 c laws are at in
     let one = in_chunk cs items m are (omega arith) in
@@ -343,7 +367,8 @@ first_is_head cs items n k c laws are at m less =
     of is other (inl h) = omega arith
     of is other (inr h) = let none = h.1 in absurd (omega arith)
 
-pub head_is_first : (cs : List Chunk) (items : List Item) (n k j : ℕ) (c : Chunk) → AreLayouts → AreChunks cs items → IsAt cs n k j c → IsHead (place_of cs) n → j ≡ 0
+pub head_is_first : (cs : List Chunk) (items : List Item) (n k j : ℕ) (c : Chunk) → AreLayouts → AreChunks cs items → IsAt cs n k j c
+    → IsHead (place_of cs) n → j ≡ 0
 head_is_first cs items n k zero c laws are at head = refl
 head_is_first cs items n k (suc j) c laws are at head =
     let number = at.number in
@@ -361,7 +386,8 @@ breaks_inside items n breaks = of (slice_get items n) refl breaks
     of None is h = absurd h
     of (Some i) is h = slice_get_within items n i is
 
-pub begins_first : (cs : List Chunk) (items : List Item) (n k j : ℕ) (c : Chunk) → AreLayouts → AreChunks cs items → IsAt cs n k j c → BreaksAt items n → j ≡ 0
+pub begins_first : (cs : List Chunk) (items : List Item) (n k j : ℕ) (c : Chunk) → AreLayouts → AreChunks cs items → IsAt cs n k j c
+    → BreaksAt items n → j ≡ 0
 begins_first cs items n k zero c laws are at begins = refl
 begins_first cs items zero k (suc j) c laws are at begins = let number = at.number in absurd (omega arith)
 begins_first cs items (suc n) k (suc j) c laws are at begins =
@@ -370,27 +396,32 @@ begins_first cs items (suc n) k (suc j) c laws are at begins =
     let two = element items (suc n) less in
     of two.0 two.1 (together laws cs items n k j c one.0 two.0 are at one.1 two.1).0 begins
   where
-    of : (y : Item) → slice_get items (suc n) ≡ Some y → y.breaks ≡ false → IsSomeAnd (slice_get items (suc n)) (λ i. i.breaks ≡ true) → suc j ≡ 0
+    of : (y : Item) → slice_get items (suc n) ≡ Some y → y.breaks ≡ false → IsSomeAnd (slice_get items (suc n)) (λ i. i.breaks ≡ true)
+        → suc j ≡ 0
     of y there goes_on breaks =
         let yes : y.breaks ≡ true = subst (λ (o : Option Item). IsSomeAnd o (λ i. i.breaks ≡ true)) there breaks in absurd (cc)
 
-pub behind_call_first : (cs : List Chunk) (items : List Item) (n k j : ℕ) (c : Chunk) (x : Item) → AreLayouts → AreChunks cs items → IsAt cs (suc n) k j c → slice_get items n ≡ Some x
+pub behind_call_first : (cs : List Chunk) (items : List Item) (n k j : ℕ) (c : Chunk) (x : Item) → AreLayouts → AreChunks cs items
+    → IsAt cs (suc n) k j c → slice_get items n ≡ Some x
     → IsCall x.insn.op → j ≡ 0
 behind_call_first cs items n k zero c x laws are at there call = refl
 behind_call_first cs items n k (suc j) c x laws are at there call =
     let next = element items (suc n) (below_all cs items (suc n) k (suc j) c laws are at) in
     absurd ((together laws cs items n k j c x next.0 are at there next.1).1 call)
 
-pub call_is_last : (cs : List Chunk) (items : List Item) (n k j : ℕ) (c : Chunk) (x : Item) → AreLayouts → AreChunks cs items → IsAt cs n k j c → slice_get items n ≡ Some x
+pub call_is_last : (cs : List Chunk) (items : List Item) (n k j : ℕ) (c : Chunk) (x : Item) → AreLayouts → AreChunks cs items
+    → IsAt cs n k j c → slice_get items n ≡ Some x
     → IsCall x.insn.op → suc j ≡ length c.wanted
 call_is_last cs items n k j c x laws are at there call = of (cases_lt (suc j) (length c.wanted)) at.inside
   where
     of : (suc j < length c.wanted) ⊎ (length c.wanted ≤ suc j) → j < length c.wanted → suc j ≡ length c.wanted
-    of (inl h) inside = let first = behind_call_first cs items n k (suc j) c x laws are (next_inside cs n k j c at h) there call in absurd (omega arith)
+    of (inl h) inside =
+        let first = behind_call_first cs items n k (suc j) c x laws are (next_inside cs n k j c at h) there call in absurd (omega arith)
     of (inr h) inside = omega arith
 
 -- The first instruction is the first of the first bundle.
-pub first_of_all : (cs : List Chunk) (k j : ℕ) (c : Chunk) → IsAt cs 0 k j c → AreLayouts → (items : List Item) → AreChunks cs items → (k ≡ 0) × (j ≡ 0)
+pub first_of_all : (cs : List Chunk) (k j : ℕ) (c : Chunk) → IsAt cs 0 k j c → AreLayouts → (items : List Item) → AreChunks cs items
+    → (k ≡ 0) × (j ≡ 0)
 first_of_all cs zero j c at laws items are = (refl, (let number = at.number in omega arith))
 first_of_all [] (suc k) j c at laws items are = let there = at.there in absurd (cc)
 first_of_all (d ∷ cs) (suc k) j c at laws items are =
@@ -398,7 +429,8 @@ first_of_all (d ∷ cs) (suc k) j c at laws items are =
     let some = (put_at laws (d ∷ cs) items 0 d are refl).some in absurd (omega arith)
 
 -- Whether a stop is wanted behind an instruction.
-pub gap_inside : (ws : List Wanted) (end : Bool) (j : ℕ) (x : Wanted) → slice_get ws (suc j) ≡ Some x → slice_get (gaps_in ws end) j ≡ Some x.gap
+pub gap_inside : (ws : List Wanted) (end : Bool) (j : ℕ) (x : Wanted) → slice_get ws (suc j) ≡ Some x
+    → slice_get (gaps_in ws end) j ≡ Some x.gap
 gap_inside [] end j x at = absurd (cc)
 gap_inside (w ∷ []) end zero x at = absurd (cc)
 gap_inside (w ∷ []) end (suc j) x at = absurd (cc)
@@ -422,12 +454,14 @@ pub gap_there : (cs : List Chunk) (k j : ℕ) (c : Chunk) → slice_get cs k ≡
 gap_there [] k j c there inside = absurd (cc)
 gap_there (d ∷ cs) zero j c there inside =
     let same : d ≡ c = same_Some d c there in
-    let less : j < length (gaps_in d.wanted d.end) = subst (λ m. j < m) (sym (length-gaps_in d.wanted d.end ∙ ap (λ (c : Chunk). length c.wanted) same)) inside in
+    let less : j < length (gaps_in d.wanted d.end) =
+    subst (λ m. j < m) (sym (length-gaps_in d.wanted d.end ∙ ap (λ (c : Chunk). length c.wanted) same)) inside in
     ap (slice_get (gaps_in d.wanted d.end ++ gaps_of cs)) (let zero_and : 0 + j ≡ j = omega arith in zero_and)
     ∙ slice_get-append_left (gaps_in d.wanted d.end) (gaps_of cs) j less
     ∙ ap (λ (c : Chunk). slice_get (gaps_in c.wanted c.end) j) same
 gap_there (d ∷ cs) (suc k) j c there inside =
     let count = length-gaps_in d.wanted d.end in
-    ap (slice_get (gaps_in d.wanted d.end ++ gaps_of cs)) (let number : length d.wanted + held cs k + j ≡ length (gaps_in d.wanted d.end) + (held cs k + j) = omega arith in number)
+    ap (slice_get (gaps_in d.wanted d.end ++ gaps_of cs)) (let number : length d.wanted + held cs k + j
+    ≡ length (gaps_in d.wanted d.end) + (held cs k + j) = omega arith in number)
     ∙ slice_get-append_right (gaps_in d.wanted d.end) (gaps_of cs) (held cs k + j)
     ∙ gap_there cs k j c there inside

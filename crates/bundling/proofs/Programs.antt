@@ -51,16 +51,19 @@ entries_rise s cs h n inside =
     let here : slice_index (map f s.entries) n ≡ f entry = get_or-map f s.entries n 0 0 less in
     let before : floor (map f s.entries) n ≡ f (floor s.entries n) = floor_moved f s.entries n (first_bundle s cs h) less in
     let count : length (program_of s cs).bundles ≡ length cs = length-bundles cs (targeted f s) in
-    let rises : f (floor s.entries n) < f entry = begins_head s cs entry h (h.loose.entries_break entry (Contains-get_or s.entries n 0 less)) (floor s.entries n) is.rises in
+    let rises : f (floor s.entries n) < f entry =
+    begins_head s cs entry h (h.loose.entries_break entry (Contains-get_or s.entries n 0 less)) (floor s.entries n) is.rises in
     let room : f entry < length cs = bundle_inside s cs entry h is.inside in
     record { rises = omega (arith, here, before, rises); inside = omega (arith, here, count, room) }
 
 -- The bundle of an entry is one.
-call_put_in : (s : Loose) (n : ℕ) → IsLoose s → n < length s.items → IsSomeAnd (slice_get s.items n) (λ i. IsCall i.insn.op) → IsSomeAnd (slice_get (targeted itself s) n) (λ i. IsCall i.op)
+call_put_in : (s : Loose) (n : ℕ) → IsLoose s → n < length s.items → IsSomeAnd (slice_get s.items n) (λ i. IsCall i.insn.op)
+    → IsSomeAnd (slice_get (targeted itself s) n) (λ i. IsCall i.op)
 call_put_in s n loose less call =
     let one = item_at s n loose less in
     let calls : IsCall one.item.insn.op = subst (λ (o : Option Item). IsSomeAnd o (λ i. IsCall i.insn.op)) one.there call in
-    subst (λ (o : Option Insn). IsSomeAnd o (λ i. IsCall i.op)) (sym (one.put_in itself)) ((call_put itself n one.item.insn.op one.target).0 calls)
+    subst (λ (o : Option Insn). IsSomeAnd o (λ i. IsCall i.op)) (sym (one.put_in itself))
+    ((call_put itself n one.item.insn.op one.target).0 calls)
 
 sequence_entry : (s : Loose) (n : ℕ) → IsLoose s → IsItemEntry s.items s.entries n → IsSequenceEntry (sequence_of s) n
 sequence_entry s n loose entry = record {
@@ -74,17 +77,21 @@ sequence_entry s n loose entry = record {
     of (inr (inl declared)) = inr (inl declared)
     of (inr (inr (some, call))) = let less = entry.inside in inr (inr (some, call_put_in s (n - 1) loose (omega arith) call))
 
-entry_moved : (s : Loose) (cs : List Chunk) (n : ℕ) → IsBundling s cs → IsItemEntry s.items s.entries n → IsEntryOf (program_of s cs).bundles (program_of s cs).entries (bundle_of cs n)
+entry_moved : (s : Loose) (cs : List Chunk) (n : ℕ) → IsBundling s cs → IsItemEntry s.items s.entries n
+    → IsEntryOf (program_of s cs).bundles (program_of s cs).entries (bundle_of cs n)
 entry_moved s cs n h entry = (entry_of h.laws s cs h.loose h.are.chunks n (sequence_entry s n h.loose entry)).0
 
 -- Relations rise.
-relation_rises : (s : Loose) (cs : List Chunk) (before relation : Relation) → IsBundling s cs → IsRelationBefore before relation → BreaksAt s.items relation.bundle
+relation_rises : (s : Loose) (cs : List Chunk) (before relation : Relation) → IsBundling s cs → IsRelationBefore before relation
+    → BreaksAt s.items relation.bundle
     → IsRelationBefore (relation_moved (bundle_of cs) before) (relation_moved (bundle_of cs) relation)
 relation_rises s cs before relation h (inl less) begins = inl (begins_head s cs relation.bundle h begins before.bundle less)
 relation_rises s cs before relation h (inr (same, rises)) begins = inr (ap (bundle_of cs) same, rises)
 
-relation_stays : (s : Loose) (cs : List Chunk) (before relation : Relation) → IsBundling s cs → IsRelationBefore before relation → IsFit (IsItemEntry s.items s.entries) relation → BreaksAt s.items relation.bundle
-    → IsDeclarable (program_of s cs).bundles (program_of s cs).entries (relation_moved (bundle_of cs) before) (relation_moved (bundle_of cs) relation)
+relation_stays : (s : Loose) (cs : List Chunk) (before relation : Relation) → IsBundling s cs → IsRelationBefore before relation
+    → IsFit (IsItemEntry s.items s.entries) relation → BreaksAt s.items relation.bundle
+    → IsDeclarable (program_of s cs).bundles (program_of s cs).entries (relation_moved (bundle_of cs) before)
+    (relation_moved (bundle_of cs) relation)
 relation_stays s cs before relation h rises fit begins = record {
   rises = relation_rises s cs before relation h rises begins;
   entry = entry_moved s cs relation.bundle h fit.entry;
@@ -93,25 +100,31 @@ relation_stays s cs before relation h rises fit begins = record {
   static = fit.static;
 }
 
-before_moved : (f : ℕ → ℕ) (relations : List Relation) (n : ℕ) → f 0 ≡ 0 → n < length relations → relation_before (map (relation_moved f) relations) n ≡ relation_moved f (relation_before relations n)
+before_moved : (f : ℕ → ℕ) (relations : List Relation) (n : ℕ) → f 0 ≡ 0 → n < length relations
+    → relation_before (map (relation_moved f) relations) n ≡ relation_moved f (relation_before relations n)
 before_moved f relations zero first less = ap (λ (bundle : ℕ). record { bundle = bundle; p = 0; q = 0 }) (sym first)
 before_moved f relations (suc n) first less = get_or-map (relation_moved f) relations n no_relation no_relation (omega arith)
 
-relations_rise : (s : Loose) (cs : List Chunk) → IsBundling s cs → AreRelations (program_of s cs).bundles (program_of s cs).entries (program_of s cs).relations
+relations_rise : (s : Loose) (cs : List Chunk) → IsBundling s cs
+    → AreRelations (program_of s cs).bundles (program_of s cs).entries (program_of s cs).relations
 relations_rise s cs h n inside =
     let f = bundle_of cs in
     let less : n < length s.relations = subst (λ m. n < m) (length-map s.relations (relation_moved f)) inside in
-    let here : relation_at (map (relation_moved f) s.relations) n ≡ relation_moved f (relation_at s.relations n) = get_or-map (relation_moved f) s.relations n no_relation no_relation less in
+    let here : relation_at (map (relation_moved f) s.relations) n ≡ relation_moved f (relation_at s.relations n) =
+    get_or-map (relation_moved f) s.relations n no_relation no_relation less in
     let before = before_moved f s.relations n (first_bundle s cs h) less in
     let is = h.loose.relations n less in
     let begins = h.loose.relations_break (relation_at s.relations n) (Contains-get_or s.relations n no_relation less) in
     let stays = relation_stays s cs (relation_before s.relations n) (relation_at s.relations n) h is.0 is.1 begins in
-    subst (λ (r : Relation). IsDeclarable (program_of s cs).bundles (program_of s cs).entries r (relation_at (program_of s cs).relations n)) (sym before)
-    (subst (λ (r : Relation). IsDeclarable (program_of s cs).bundles (program_of s cs).entries (relation_moved f (relation_before s.relations n)) r) (sym here) stays)
+    subst (λ (r : Relation). IsDeclarable (program_of s cs).bundles (program_of s cs).entries r (relation_at (program_of s cs).relations n))
+    (sym before)
+    (subst (λ (r : Relation). IsDeclarable (program_of s cs).bundles (program_of s cs).entries
+    (relation_moved f (relation_before s.relations n)) r) (sym here) stays)
 
 -- The counts are those of the text and of its chunks.
 in_range : (s : Loose) (cs : List Chunk) → IsBundling s cs
-    → AreInRange (length (program_of s cs).bundles) (length (program_of s cs).entries) (length (program_of s cs).bytes) (length (program_of s cs).relations)
+    → AreInRange (length (program_of s cs).bundles) (length (program_of s cs).entries) (length (program_of s cs).bytes)
+    (length (program_of s cs).relations)
 in_range s cs h =
     let loose = h.loose in
     let few = h.are.few in
@@ -127,7 +140,8 @@ in_range s cs h =
     }
 
 -- They are a program.
-pub are_program : (s : Loose) (cs : List Chunk) → IsBundling s cs → EachPlace (program_of s cs).bundles (IsWithinRun (program_of s cs).bundles) → IsProgram (program_of s cs)
+pub are_program : (s : Loose) (cs : List Chunk) → IsBundling s cs
+    → EachPlace (program_of s cs).bundles (IsWithinRun (program_of s cs).bundles) → IsProgram (program_of s cs)
 are_program s cs h runs = record {
   fit = bundles_fit s cs h;
   counts = in_range s cs h;

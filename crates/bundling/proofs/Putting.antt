@@ -61,7 +61,8 @@ place_there Loop = refl
 place_there X = refl
 
 -- What fits a slot is listed.
-listed_stays : PlaceIsFit → (i : Insn) (a : Address) (n : ℕ) → IsReachable a → n < reach → IsListed i → IfSome (addressed i.op a n) (λ y. IsListed (record { qp = i.qp; op = y }))
+listed_stays : PlaceIsFit → (i : Insn) (a : Address) (n : ℕ) → IsReachable a → n < reach → IsListed i
+    → IfSome (addressed i.op a n) (λ y. IsListed (record { qp = i.qp; op = y }))
 listed_stays law i a n within here listed =
     let class = class_of i.op in
     let u = unit_for class in
@@ -98,12 +99,15 @@ IsInto f items count = (n : ℕ) → n < items → f n < count
 no_target : (count own : ℕ) (o : Option ℤ) → o ≡ None → IfSome o (IsBundleAt count own)
 no_target count own o is = subst (λ o. IfSome o (IsBundleAt count own)) (sym is) tt
 
-with_target : PlaceIsFit → (count own : ℕ) (i : Insn) (a : Address) → IsListed i → own < reach → IsReachable a → IsInside count a → IsSome (addressed i.op a own)
+with_target : PlaceIsFit → (count own : ℕ) (i : Insn) (a : Address) → IsListed i → own < reach → IsReachable a → IsInside count a
+    → IsSome (addressed i.op a own)
     → IsPutIn count own i.op (record { qp = i.qp; op = unwrap_or (addressed i.op a own) i.op })
 with_target law count own i a listed here within inside some = record {
-  listed = chosen (λ y. IsListed (record { qp = i.qp; op = y })) (addressed i.op a own) i.op some (listed_stays law i a own within here listed);
+  listed =
+      chosen (λ y. IsListed (record { qp = i.qp; op = y })) (addressed i.op a own) i.op some (listed_stays law i a own within here listed);
   class = chosen (λ y. class_of y ≡ class_of i.op) (addressed i.op a own) i.op some (class_stays i.op a own);
-  target = chosen (λ y. IfSome (displacement y) (IsBundleAt count own)) (addressed i.op a own) i.op some (target_inside count i.op a own inside);
+  target =
+      chosen (λ y. IfSome (displacement y) (IsBundleAt count own)) (addressed i.op a own) i.op some (target_inside count i.op a own inside);
 }
 
 -- Whether a bundle can be put in says nothing of which bundle it is.
@@ -115,8 +119,10 @@ some_elsewhere (op.BrCall b1 wh many clr disp) m n own some = refl
 some_elsewhere (op.Movl r1 imm) m n own some = refl
 some_elsewhere x m n own some = absurd (cc)
 
-pub is_put_in : PlaceIsFit → (items : List Item) (count own : ℕ) (f : ℕ → ℕ) (i : Insn) (target : Option Address) → IsListed i → IsTargetOf items i.op target
-    → own < reach → count ≤ reach → IsInto f (length items) count → IsPutIn count own i.op (record { qp = i.qp; op = put_in f own i.op target })
+pub is_put_in : PlaceIsFit → (items : List Item) (count own : ℕ) (f : ℕ → ℕ) (i : Insn) (target : Option Address) → IsListed i
+    → IsTargetOf items i.op target
+    → own < reach → count ≤ reach → IsInto f (length items) count
+    → IsPutIn count own i.op (record { qp = i.qp; op = put_in f own i.op target })
 is_put_in law items count own f i None listed aimed here few into =
     record { listed = listed; class = refl; target = no_target count own (displacement i.op) aimed }
 is_put_in law items count own f i (Some (Bundle m)) listed (some, begins) here few into =

@@ -34,7 +34,8 @@ gap_there [] h = absurd (cc)
 gap_there (w ∷ []) h = absurd (cc)
 gap_there (w ∷ x ∷ ws) h = of x.gap refl h (gap_there (x ∷ ws))
   where
-    of : (gap : Bool) → x.gap ≡ gap → (not gap && has_no_gap (x ∷ ws)) ≡ false → (has_no_gap (x ∷ ws) ≡ false → HasGap (x ∷ ws)) → HasGap (w ∷ x ∷ ws)
+    of : (gap : Bool) → x.gap ≡ gap → (not gap && has_no_gap (x ∷ ws)) ≡ false → (has_no_gap (x ∷ ws) ≡ false → HasGap (x ∷ ws))
+        → HasGap (w ∷ x ∷ ws)
     of true is h later = record { before = 0; wanted = x; there = refl; gap = is }
     of false is h later =
         let rest = later h in
@@ -52,7 +53,8 @@ last_is_place : (b : Bundle) → IsSome (slot_insn b.slots (last_slot b.slots))
 last_is_place b = grind arith
 
 -- A bundle that isn't quiet has one.
-stop_inside : (c : Chunk) (code : ℕ) (ks : List ℕ) (is : List Insn) → HoldsInOrder c.wanted code ks is → HasStopsAsWanted c.wanted c.end ks (filled code ks is)
+stop_inside : (c : Chunk) (code : ℕ) (ks : List ℕ) (is : List Insn) → HoldsInOrder c.wanted code ks is
+    → HasStopsAsWanted c.wanted c.end ks (filled code ks is)
     → has_no_gap c.wanted ≡ false → HasStop (filled code ks is)
 stop_inside c code ks is holds stops h =
     let gap = gap_there c.wanted h in
@@ -62,12 +64,21 @@ stop_inside c code ks is holds stops h =
     let second = element ks (suc gap.before) (omega arith) in
     let next : suc gap.before ≡ gap.before + 1 = omega arith in
     let between : HasStopWhere gap.wanted.gap (filled code ks is) first.0 second.0 =
-    stops.between gap.before first.0 second.0 gap.wanted first.1 (subst (λ n. slice_get ks n ≡ Some second.0) next second.1) (subst (λ n. slice_get c.wanted n ≡ Some gap.wanted) next gap.there) in
-    let one : HasOneStop (filled code ks is) first.0 second.0 = subst (λ wanted. HasStopWhere wanted (filled code ks is) first.0 second.0) gap.gap between in
+    stops.between gap.before first.0 second.0 gap.wanted first.1 (subst (λ n. slice_get ks n ≡ Some second.0) next second.1)
+    (subst (λ n. slice_get c.wanted n ≡ Some gap.wanted) next gap.there) in
+    let one : HasOneStop (filled code ks is) first.0 second.0 =
+    subst (λ wanted. HasStopWhere wanted (filled code ks is) first.0 second.0) gap.gap between in
     let below = one.below in
-    record { slot = one.slot; place = second.0; within = omega (arith, below); is = holds.places (suc gap.before) second.0 second.1; stop = one.here }
+    record {
+      slot = one.slot;
+      place = second.0;
+      within = omega (arith, below);
+      is = holds.places (suc gap.before) second.0 second.1;
+      stop = one.here;
+    }
 
-stop_there : (c : Chunk) (code : ℕ) (ks : List ℕ) (is : List Insn) → HoldsInOrder c.wanted code ks is → HasStopsAsWanted c.wanted c.end ks (filled code ks is)
+stop_there : (c : Chunk) (code : ℕ) (ks : List ℕ) (is : List Insn) → HoldsInOrder c.wanted code ks is
+    → HasStopsAsWanted c.wanted c.end ks (filled code ks is)
     → is_quiet c ≡ false → HasStop (filled code ks is)
 stop_there c code ks is holds stops h = of c.end refl h
   where
@@ -86,7 +97,8 @@ record HasEnd (bundles : List Bundle) (k : ℕ) : Type 0 where
 end_there : StopTest → (bundles : List Bundle) (k : ℕ) (b : Bundle) → slice_get bundles k ≡ Some b → HasStop b → HasEnd bundles k
 unfolding insn_at is_stopped
 end_there test bundles k b there stop =
-    let later : IsPlaceOf bundles (in_bundle k stop.place) = subst (λ (o : Option Bundle). IsSome (bundle_insn o stop.place)) (sym there) stop.is in
+    let later : IsPlaceOf bundles (in_bundle k stop.place) =
+    subst (λ (o : Option Bundle). IsSome (bundle_insn o stop.place)) (sym there) stop.is in
     let lies = lies_in bundles (in_bundle k stop.place) later in
     let within = lies.within in
     let below = stop.within in
@@ -105,7 +117,8 @@ few_or_many : (a b : ℕ) → (a < b) ⊎ (b ≤ a)
 few_or_many a b = grind arith
 
 -- Each run is within its limit.
-pub runs_short : AreLayouts → LaidOutHasStopsAsWanted → StopTest → (s : Loose) (cs : List Chunk) → AreChunksOf s cs → HasNoLongQuiet cs → (place : Place)
+pub runs_short : AreLayouts → LaidOutHasStopsAsWanted → StopTest → (s : Loose) (cs : List Chunk) → AreChunksOf s cs → HasNoLongQuiet cs
+    → (place : Place)
     → IsPlaceOf (program_of s cs).bundles place → IsWithinRun (program_of s cs).bundles place
 runs_short laws stops test s cs are quiet place is slots stands = of (few_or_many (length slots) RUN_LIMIT)
   where
@@ -125,7 +138,9 @@ runs_short laws stops test s cs are quiet place is slots stands = of (few_or_man
         let part = part_of cs some.0 chunk.0 insns in
         let holds = laws.holds chunk.0.wanted chunk.0.end layout.0 layout.1 part put.laid in
         let wanted = stops chunk.0.wanted chunk.0.end layout.0 layout.1 part put.laid in
-        let end = end_there test (program_of s cs).bundles some.0 (filled layout.0 layout.1 part) (bundle_at cs insns some.0 chunk.0 chunk.1) (stop_there chunk.0 layout.0 layout.1 part holds wanted chunk.2) in
+        let end =
+        end_there test (program_of s cs).bundles some.0 (filled layout.0 layout.1 part) (bundle_at cs insns some.0 chunk.0 chunk.1)
+        (stop_there chunk.0 layout.0 layout.1 part holds wanted chunk.2) in
         let before : some.0 < place.bundle = omega (arith, some.2, far) in
         let near : place_number place ≤ place_number (in_bundle some.0 end.slot) + length slots = omega (arith, some.1, far, many, small) in
         absurd (near_goes_on (program_of s cs).bundles slots place (in_bundle some.0 end.slot) stands end.is (inl before) near end.ends)

@@ -74,12 +74,14 @@ of_class s n class test loose none some here = of (slice_get (targeted itself s)
 allocates_here : (s : Loose) (n : ℕ) → IsLoose s → allocates_at (over_sequence (sequence_of s)) (first_of n) ≡ true → IsOfClass s n M
 unfolding allocates_at sequence_insn
 allocates_here s n loose here = of_class s n M allocates loose refl (λ it i is h. alloc_is_m it.item.insn.op
-    (sym (allocates_put itself n it.item.insn it.target) ∙ ap (λ (i : Insn). is_alloc (insn_action i)) (same_Some _ i (sym (it.put_in itself) ∙ is)) ∙ h)) here
+    (sym (allocates_put itself n it.item.insn it.target) ∙ ap (λ (i : Insn). is_alloc (insn_action i))
+    (same_Some _ i (sym (it.put_in itself) ∙ is)) ∙ h)) here
 
 clears_here : (s : Loose) (n : ℕ) → IsLoose s → clears_at (over_sequence (sequence_of s)) (first_of n) ≡ true → IsOfClass s n B
 unfolding clears_at sequence_insn
 clears_here s n loose here = of_class s n B clears_in loose refl (λ it i is h. clear_is_b it.item.insn.op
-    (sym (clears_put itself n it.item.insn it.target) ∙ ap (λ (i : Insn). clears (insn_action i)) (same_Some _ i (sym (it.put_in itself) ∙ is)) ∙ h)) here
+    (sym (clears_put itself n it.item.insn it.target) ∙ ap (λ (i : Insn). clears (insn_action i))
+    (same_Some _ i (sym (it.put_in itself) ∙ is)) ∙ h)) here
 
 -- What its chunk wants at it.
 pub record WantsClass (c : Chunk) (j : ℕ) (class : SlotClass) : Type 0 where
@@ -87,42 +89,55 @@ pub record WantsClass (c : Chunk) (j : ℕ) (class : SlotClass) : Type 0 where
   pub there : slice_get c.wanted j ≡ Some wanted
   pub is : wanted.class ≡ class
 
-wants : ArePlaceLaws → (s : Loose) (cs : List Chunk) (n k j : ℕ) (c : Chunk) (class : SlotClass) → AreChunks cs s.items → IsAt cs n k j c → IsOfClass s n class → WantsClass c j class
+wants : ArePlaceLaws → (s : Loose) (cs : List Chunk) (n k j : ℕ) (c : Chunk) (class : SlotClass) → AreChunks cs s.items → IsAt cs n k j c
+    → IsOfClass s n class → WantsClass c j class
 wants laws s cs n k j c class are at of =
     let w = element c.wanted j at.inside in
-    record { wanted = w.0; there = w.1; is = class_there laws.stops.layouts cs s.items n k j c w.0 of.item.item are at w.1 of.item.there ∙ of.is }
+    record {
+      wanted = w.0;
+      there = w.1;
+      is = class_there laws.stops.layouts cs s.items n k j c w.0 of.item.item are at w.1 of.item.there
+          ∙ of.is;
+    }
 
 -- An M instruction that is the first of its bundle stands in slot 0.
-first_in_slot_0 : ArePlaceLaws → (ws : List Wanted) (end : Bool) (code : ℕ) (ks : List ℕ) (w : Wanted) → laid_out ws end ≡ Some (code, ks) → slice_get ws 0 ≡ Some w → w.class ≡ M
+first_in_slot_0 : ArePlaceLaws → (ws : List Wanted) (end : Bool) (code : ℕ) (ks : List ℕ) (w : Wanted) → laid_out ws end ≡ Some (code, ks)
+    → slice_get ws 0 ≡ Some w → w.class ≡ M
     → slice_get ks 0 ≡ Some 0
 first_in_slot_0 laws [] end code ks w laid at is = absurd (cc)
 first_in_slot_0 laws (x ∷ ws) end code ks w laid at is =
     let same : x ≡ w = same_Some x w at in
     laws.first x ws end code ks laid (inl (ap (λ (w : Wanted). w.class) same ∙ is))
 
-m_first : ArePlaceLaws → (s : Loose) (cs : List Chunk) (n k slot : ℕ) (c : Chunk) → AreChunks cs s.items → IsAt cs n k 0 c → IsOfClass s n M → slice_get (layout_of c).1 0 ≡ Some slot → slot ≡ 0
+m_first : ArePlaceLaws → (s : Loose) (cs : List Chunk) (n k slot : ℕ) (c : Chunk) → AreChunks cs s.items → IsAt cs n k 0 c → IsOfClass s n M
+    → slice_get (layout_of c).1 0 ≡ Some slot → slot ≡ 0
 m_first laws s cs n k slot c are at of there =
     let want = wants laws s cs n k 0 c M are at of in
     let put = put_at laws.stops.layouts cs s.items k c are at.there in
-    same_Some slot 0 (sym there ∙ first_in_slot_0 laws c.wanted c.end (layout_of c).0 (layout_of c).1 want.wanted put.laid want.there want.is)
+    same_Some slot 0 (sym there ∙ first_in_slot_0 laws c.wanted c.end (layout_of c).0 (layout_of c).1 want.wanted put.laid want.there
+    want.is)
 
 -- The next place.
 next_there : (bundles : List Bundle) (place next : Place) → IsNext bundles place next → next_of bundles place ≡ Some next
 next_there bundles place next is = sym (next_same bundles place (Some next) is)
 
 -- Where a stop is in a part of a bundle, one is wanted.
-wanted_there : (gap : Bool) (b : Bundle) (from before slot : ℕ) → HasStopWhere gap b from before → from ≤ slot → slot < before → has_stop b slot ≡ true → gap ≡ true
+wanted_there : (gap : Bool) (b : Bundle) (from before slot : ℕ) → HasStopWhere gap b from before → from ≤ slot → slot < before
+    → has_stop b slot ≡ true → gap ≡ true
 wanted_there true b from before slot h above less stop = refl
 wanted_there false b from before slot h above less stop = let none = h slot above less in absurd (cc)
 
 -- A stop in a part of a bundle where one is wanted is the one that is known.
-same_stop : (gap : Bool) (b : Bundle) (from before slot other : ℕ) → HasStopWhere gap b from before → from ≤ slot → slot < before → has_stop b slot ≡ true
+same_stop : (gap : Bool) (b : Bundle) (from before slot other : ℕ) → HasStopWhere gap b from before → from ≤ slot → slot < before
+    → has_stop b slot ≡ true
     → from ≤ other → other < before → has_stop b other ≡ true → slot ≡ other
-same_stop true b from before slot other h above less stop above_too less_too stop_too = h.only slot above less stop ∙ sym (h.only other above_too less_too stop_too)
+same_stop true b from before slot other h above less stop above_too less_too stop_too =
+    h.only slot above less stop ∙ sym (h.only other above_too less_too stop_too)
 same_stop false b from before slot other h above less stop above_too less_too stop_too = let none = h slot above less in absurd (cc)
 
 -- An `alloc` that is first in its bundle stands in slot 0.
-alloc_head : ArePlaceLaws → (s : Loose) (cs : List Chunk) → AreChunks cs s.items → (n : ℕ) → IsOfClass s n M → IsHead (place_of cs) n → (place_of cs n).slot ≡ 0
+alloc_head : ArePlaceLaws → (s : Loose) (cs : List Chunk) → AreChunks cs s.items → (n : ℕ) → IsOfClass s n M → IsHead (place_of cs) n
+    → (place_of cs n).slot ≡ 0
 alloc_head laws s cs are n of head =
     let one = in_chunk cs s.items n are of.inside in
     let first = head_is_first cs s.items n one.bundle one.offset one.chunk laws.stops.layouts are one.at head in
@@ -138,7 +153,8 @@ record IsStopOfOne (s : Loose) (cs : List Chunk) (n : ℕ) (one : InOne cs n) (x
   pub stops : HasStopWhere w.gap (filled_at cs (targeted (bundle_of cs) s) one.bundle one.chunk) one.slot one.other
   pub gap : w.gap ≡ true
 
-stop_of_one : ArePlaceLaws → (s : Loose) (cs : List Chunk) → AreChunks cs s.items → (n : ℕ) (one : InOne cs n) (x : Place) (w : Wanted) → IsBetween (program_of s cs) (place_of cs) n x
+stop_of_one : ArePlaceLaws → (s : Loose) (cs : List Chunk) → AreChunks cs s.items → (n : ℕ) (one : InOne cs n) (x : Place) (w : Wanted)
+    → IsBetween (program_of s cs) (place_of cs) n x
     → is_stopped (bundles_of s cs) x ≡ true → slice_get one.chunk.wanted (suc one.offset) ≡ Some w → IsStopOfOne s cs n one x w
 stop_of_one laws s cs are n one x w between stopped wanted =
     let insns = targeted (bundle_of cs) s in
@@ -160,27 +176,35 @@ record IsStopOfTwo (s : Loose) (cs : List Chunk) (n : ℕ) (two : InTwo cs n) (x
   pub above : two.first.slot ≤ x.slot
   pub last : x.slot ≡ last_slot (filled_at cs (targeted (bundle_of cs) s) two.first.bundle two.first.chunk).slots
 
-stop_of_two : ArePlaceLaws → (s : Loose) (cs : List Chunk) → AreChunks cs s.items → (n : ℕ) (two : InTwo cs n) (x : Place) → IsBetween (program_of s cs) (place_of cs) n x
+stop_of_two : ArePlaceLaws → (s : Loose) (cs : List Chunk) → AreChunks cs s.items → (n : ℕ) (two : InTwo cs n) (x : Place)
+    → IsBetween (program_of s cs) (place_of cs) n x
     → is_stopped (bundles_of s cs) x ≡ true → IsStopOfTwo s cs n two x
 stop_of_two laws s cs are n two x between stopped =
     let insns = targeted (bundle_of cs) s in
     let first = two.first in
     let b = filled_at cs insns first.bundle first.chunk in
-    let within = stop_of_first laws.stops cs s.items insns n two x are between.is between.from (subst (IsBefore x) (ap (place_of cs) (add-one n)) between.below) stopped in
+    let within =
+    stop_of_first laws.stops cs s.items insns n two x are between.is between.from
+    (subst (IsBefore x) (ap (place_of cs) (add-one n)) between.below) stopped in
     let stop = stop_at cs insns first.bundle first.chunk x first.at.there within.bundle stopped in
     let stops = stops_to_end laws.stops cs s.items insns n first are in
     let gap = wanted_there first.chunk.end b first.slot (suc (last_slot b.slots)) x.slot stops within.above within.below stop in
     let end = (stops_of_chunk laws.stops cs s.items insns first.bundle first.chunk are first.at.there).last ∙ gap in
-    let inside = slot_within laws.stops.layouts cs s.items insns first.bundle first.offset first.slot first.chunk are first.at.there first.slot_there in
+    let inside =
+    slot_within laws.stops.layouts cs s.items insns first.bundle first.offset first.slot first.chunk are first.at.there
+    first.slot_there in
     record {
       bundle = within.bundle;
       here = ap (slice_get (bundles_of s cs)) within.bundle ∙ bundle_at cs insns first.bundle first.chunk first.at.there;
       above = within.above;
-      last = same_stop first.chunk.end b first.slot (suc (last_slot b.slots)) x.slot (last_slot b.slots) stops within.above within.below stop inside (omega arith) end;
+      last =
+          same_stop first.chunk.end b first.slot (suc (last_slot b.slots)) x.slot (last_slot b.slots) stops within.above within.below stop
+          inside (omega arith) end;
     }
 
 -- A stop between an `alloc` and the instruction before it follows the place right before it.
-alloc_stop : ArePlaceLaws → (s : Loose) (cs : List Chunk) → AreChunks cs s.items → (n : ℕ) → IsOfClass s (suc n) M → (x : Place) → IsBetween (program_of s cs) (place_of cs) n x
+alloc_stop : ArePlaceLaws → (s : Loose) (cs : List Chunk) → AreChunks cs s.items → (n : ℕ) → IsOfClass s (suc n) M → (x : Place)
+    → IsBetween (program_of s cs) (place_of cs) n x
     → is_stopped (bundles_of s cs) x ≡ true → next_of (bundles_of s cs) x ≡ Some (place_of cs (suc n))
 alloc_stop laws s cs are n of x between stopped = elim (neighbours laws.stops.layouts cs s.items n are of.inside) [
   | inl one ↦ in_one one
@@ -198,17 +222,23 @@ alloc_stop laws s cs are n of x between stopped = elim (neighbours laws.stops.la
         let there = stop_of_one laws s cs are n one x want.wanted between stopped want.there in
         let put = put_at laws.stops.layouts cs s.items one.bundle c are one.at.there in
         let next = add-one one.offset in
-        let before = laws.stop_before c.wanted c.end (layout_of c).0 (layout_of c).1 (part_of cs one.bundle c insns) one.offset one.other want.wanted put.laid
+        let before =
+        laws.stop_before c.wanted c.end (layout_of c).0 (layout_of c).1 (part_of cs one.bundle c insns) one.offset one.other want.wanted
+        put.laid
         (ap (slice_get c.wanted) next ∙ want.there) want.is there.gap (ap (slice_get (layout_of c).1) next ∙ one.other_there)
         in
         let above = there.within.above in
         let below = there.within.below in
         let follows = before.1 in
-        let same : x.slot ≡ before.0 = same_stop want.wanted.gap b one.slot one.other x.slot before.0 there.stops above below there.stop (omega arith) (omega arith) before.2 in
+        let same : x.slot ≡ before.0 =
+        same_stop want.wanted.gap b one.slot one.other x.slot before.0 there.stops above below there.stop (omega arith)
+        (omega arith) before.2 in
         let slot : x.slot + 1 ≡ one.other = omega arith in
-        let last = slot_within laws.stops.layouts cs s.items insns one.bundle (suc one.offset) one.other c are one.at.there one.other_there in
+        let last =
+        slot_within laws.stops.layouts cs s.items insns one.bundle (suc one.offset) one.other c are one.at.there one.other_there in
         next_there (bundles_of s cs) x (in_bundle x.bundle (x.slot + 1)) (next_slot (bundles_of s cs) x b there.here (omega arith))
-        ∙ ap (λ k. Some (in_bundle k (x.slot + 1))) there.within.bundle ∙ ap (λ slot. Some (in_bundle one.bundle slot)) slot ∙ ap (λ (p : Place). Some p) (sym one.next_place)
+        ∙ ap (λ k. Some (in_bundle k (x.slot + 1))) there.within.bundle ∙ ap (λ slot. Some (in_bundle one.bundle slot)) slot
+        ∙ ap (λ (p : Place). Some p) (sym one.next_place)
 
     in_two : InTwo cs n → next_of (bundles_of s cs) x ≡ Some (place_of cs (suc n))
     in_two two =
@@ -219,8 +249,10 @@ alloc_stop laws s cs are n of x between stopped = elim (neighbours laws.stops.la
         let more = slice_get_within cs (suc two.first.bundle) two.chunk two.next.there in
         let next : x.bundle + 1 ≡ suc two.first.bundle = omega arith in
         next_there (bundles_of s cs) x (in_bundle (x.bundle + 1) 0)
-        (next_bundle (bundles_of s cs) x (filled_at cs insns two.first.bundle two.first.chunk) there.here (omega arith) (omega (arith, length-bundles cs insns)))
-        ∙ ap (λ k. Some (in_bundle k 0)) next ∙ ap (λ slot. Some (in_bundle (suc two.first.bundle) slot)) (sym zero_slot) ∙ ap (λ (p : Place). Some p) (sym two.next_place)
+        (next_bundle (bundles_of s cs) x (filled_at cs insns two.first.bundle two.first.chunk) there.here (omega arith)
+        (omega (arith, length-bundles cs insns)))
+        ∙ ap (λ k. Some (in_bundle k 0)) next ∙ ap (λ slot. Some (in_bundle (suc two.first.bundle) slot)) (sym zero_slot)
+        ∙ ap (λ (p : Place). Some p) (sym two.next_place)
 
 -- A `clrrrb` that is the last of its bundle stands in the last slot.
 b_last : ArePlaceLaws → (s : Loose) (cs : List Chunk) → AreChunks cs s.items → (n : ℕ) → IsOfClass s n B → (last : IsLast cs n)
@@ -229,11 +261,13 @@ b_last laws s cs are n of last =
     let c = last.chunk in
     let want = wants laws s cs n last.bundle last.offset c B are last.at of in
     let put = put_at laws.stops.layouts cs s.items last.bundle c are last.at.there in
-    laws.last c.wanted c.end (layout_of c).0 (layout_of c).1 (part_of cs last.bundle c (targeted (bundle_of cs) s)) last.offset last.slot want.wanted put.laid want.there want.is
+    laws.last c.wanted c.end (layout_of c).0 (layout_of c).1 (part_of cs last.bundle c (targeted (bundle_of cs) s)) last.offset last.slot
+    want.wanted put.laid want.there want.is
     (add-one last.offset ∙ last.last) last.slot_there
 
 -- A stop behind it follows it right away.
-clear_stop : ArePlaceLaws → (s : Loose) (cs : List Chunk) → AreChunks cs s.items → (n : ℕ) → suc n < length s.items → IsOfClass s n B → (x : Place) → IsBetween (program_of s cs) (place_of cs) n x
+clear_stop : ArePlaceLaws → (s : Loose) (cs : List Chunk) → AreChunks cs s.items → (n : ℕ) → suc n < length s.items → IsOfClass s n B
+    → (x : Place) → IsBetween (program_of s cs) (place_of cs) n x
     → is_stopped (bundles_of s cs) x ≡ true → x ≡ place_of cs n
 clear_stop laws s cs are n more of x between stopped = elim (neighbours laws.stops.layouts cs s.items n are more) [
   | inl one ↦ in_one one
@@ -248,7 +282,9 @@ clear_stop laws s cs are n more of x between stopped = elim (neighbours laws.sto
         let there = stop_of_one laws s cs are n one x after.0 between stopped after.1 in
         let put = put_at laws.stops.layouts cs s.items one.bundle c are one.at.there in
         let next = add-one one.offset in
-        let none = (laws.next c.wanted c.end (layout_of c).0 (layout_of c).1 one.offset one.slot one.other want.wanted after.0 put.laid want.there want.is
+        let none =
+        (laws.next c.wanted c.end (layout_of c).0 (layout_of c).1 one.offset one.slot one.other want.wanted after.0 put.laid want.there
+        want.is
         (ap (slice_get c.wanted) next ∙ after.1) one.slot_there (ap (slice_get (layout_of c).1) next ∙ one.other_there)).1
         in
         let wanted = there.gap in absurd (cc)
@@ -260,7 +296,8 @@ clear_stop laws s cs are n more of x between stopped = elim (neighbours laws.sto
         ap (λ k. in_bundle k x.slot) there.bundle ∙ ap (in_bundle two.first.bundle) slot ∙ sym two.first.place
 
 -- After the last instruction of the sequence, a branch has no place behind it.
-clear_last : ArePlaceLaws → (s : Loose) (cs : List Chunk) → AreChunks cs s.items → (n : ℕ) → suc n ≡ length s.items → IsOfClass s n B → next_of (bundles_of s cs) (place_of cs n) ≡ None
+clear_last : ArePlaceLaws → (s : Loose) (cs : List Chunk) → AreChunks cs s.items → (n : ℕ) → suc n ≡ length s.items → IsOfClass s n B
+    → next_of (bundles_of s cs) (place_of cs n) ≡ None
 clear_last laws s cs are n end of =
     let one = in_chunk cs s.items n are of.inside in
     let all = last_of_all cs s.items n one.bundle one.offset one.chunk laws.stops.layouts are one.at end in
@@ -275,16 +312,21 @@ clear_last laws s cs are n end of =
         let slot = b_last laws s cs are n of last in
         ap (next_of (bundles_of s cs)) last.place
         ∙ sym (next_same (bundles_of s cs) (in_bundle last.bundle last.slot) None
-        (no_next (bundles_of s cs) (in_bundle last.bundle last.slot) (filled_at cs insns last.bundle last.chunk) (bundle_at cs insns last.bundle last.chunk last.at.there) (omega arith) (omega (arith, length-bundles cs insns))))
+        (no_next (bundles_of s cs) (in_bundle last.bundle last.slot) (filled_at cs insns last.bundle last.chunk)
+        (bundle_at cs insns last.bundle last.chunk last.at.there) (omega arith) (omega (arith, length-bundles cs insns))))
 
 -- The rules on slots.
-pub keeps_slot_rules : ArePlaceLaws → (s : Loose) (cs : List Chunk) → IsLoose s → AreChunksOf s cs → KeepsSlotRules (sequence_of s) (program_of s cs) (place_of cs) (is_stopped (bundles_of s cs))
+pub keeps_slot_rules : ArePlaceLaws → (s : Loose) (cs : List Chunk) → IsLoose s → AreChunksOf s cs
+    → KeepsSlotRules (sequence_of s) (program_of s cs) (place_of cs) (is_stopped (bundles_of s cs))
 keeps_slot_rules laws s cs loose are = record {
   alloc_head = λ n here head. alloc_head laws s cs are.chunks n (allocates_here s n loose here) head;
   alloc_stop = λ n more here x between stopped.
       subst (λ (m : ℕ). next_of (bundles_of s cs) x ≡ Some (place_of cs m)) (sym (add-one n))
-      (alloc_stop laws s cs are.chunks n (subst (λ m. IsOfClass s m M) (add-one n) (allocates_here s (n + 1) loose here)) x between stopped);
-  clear_stop = λ n more here x between stopped. clear_stop laws s cs are.chunks n (let same = count in omega arith) (clears_here s n loose here) x between stopped;
+      (alloc_stop laws s cs are.chunks n (subst (λ m. IsOfClass s m M) (add-one n) (allocates_here s (n + 1) loose here)) x between
+      stopped);
+  clear_stop =
+      λ n more here x between stopped. clear_stop laws s cs are.chunks n (let same = count in omega arith)
+      (clears_here s n loose here) x between stopped;
   clear_last = λ n end here. clear_last laws s cs are.chunks n (let same = count in omega arith) (clears_here s n loose here);
 }
   where

@@ -32,7 +32,8 @@ abbrev pub bundles_of : Loose → List Chunk → List Bundle
 bundles_of s cs = bundles_from cs (targeted (bundle_of cs) s)
 
 -- Each does the same there.
-pub there : AreLayouts → (s : Loose) (cs : List Chunk) → IsLoose s → AreChunks cs s.items → (n : ℕ) (i : Insn) → slice_get (targeted itself s) n ≡ Some i
+pub there : AreLayouts → (s : Loose) (cs : List Chunk) → IsLoose s → AreChunks cs s.items → (n : ℕ) (i : Insn)
+    → slice_get (targeted itself s) n ≡ Some i
     → (j : Insn) × (insn_at (bundles_of s cs) (place_of cs n) ≡ Some j) × DoesLike i j
 there laws s cs loose are n i at =
     let less = within_items s itself n i loose at in
@@ -40,7 +41,8 @@ there laws s cs loose are n i at =
     let same : put itself n it.item it.target ≡ i = same_Some _ i (sym (it.put_in itself) ∙ at) in (
       put (bundle_of cs) n it.item it.target,
       has_instructions laws s cs (bundle_of cs) n loose are less ∙ it.put_in (bundle_of cs),
-      subst (λ (i : Insn). DoesLike i (put (bundle_of cs) n it.item it.target)) same (like_puts itself (bundle_of cs) n (bundle_of cs n) it.item.insn it.target),
+      subst (λ (i : Insn). DoesLike i (put (bundle_of cs) n it.item it.target)) same
+          (like_puts itself (bundle_of cs) n (bundle_of cs n) it.item.insn it.target),
     )
 
 -- They are in order.
@@ -61,16 +63,19 @@ slots_rise ks rising j (suc i) k l less one two =
     of m at last (inl h) earlier = let first = earlier h in omega arith
     of m at last (inr h) earlier = let same : k ≡ m = same_Some k m (sym one ∙ ap (slice_get ks) h ∙ at) in omega arith
 
-pub rises : AreLayouts → (cs : List Chunk) (items : List Item) → AreChunks cs items → (n m : ℕ) → n < m → m < length items → IsBefore (place_of cs n) (place_of cs m)
+pub rises : AreLayouts → (cs : List Chunk) (items : List Item) → AreChunks cs items → (n m : ℕ) → n < m → m < length items
+    → IsBefore (place_of cs n) (place_of cs m)
 rises laws cs items are n m less small =
     let one = in_chunk cs items n are (omega arith) in
     let two = in_chunk cs items m are small in
     let first = placed laws cs items n one.bundle one.offset one.chunk are one.at in
     let second = placed laws cs items m two.bundle two.offset two.chunk are two.at in
     let rise = chunks_rise cs n m one.bundle two.bundle one.offset two.offset one.chunk two.chunk one.at two.at less in
-    rw (first.place, second.place) (of one.bundle two.bundle one.offset two.offset first.slot second.slot one.chunk two.chunk one.at two.at first.there second.there rise)
+    rw (first.place, second.place) (of one.bundle two.bundle one.offset two.offset first.slot second.slot one.chunk two.chunk one.at two.at
+    first.there second.there rise)
   where
-    of : (k l j i slot other : ℕ) (c d : Chunk) → IsAt cs n k j c → IsAt cs m l i d → slice_get (layout_of c).1 j ≡ Some slot → slice_get (layout_of d).1 i ≡ Some other
+    of : (k l j i slot other : ℕ) (c d : Chunk) → IsAt cs n k j c → IsAt cs m l i d → slice_get (layout_of c).1 j ≡ Some slot
+        → slice_get (layout_of d).1 i ≡ Some other
         → (k < l) ⊎ ((k ≡ l) × (j < i)) → IsBefore (in_bundle k slot) (in_bundle l other)
     of k l j i slot other c d one two at next (inl h) = inl h
     of k l j i slot other c d one two at next (inr (same, h)) =
@@ -101,14 +106,16 @@ filler (Some units.L) j h = (units.X, sym (same_Some _ j h))
 filler (Some unit) j h = (unit, sym (same_Some _ j h))
 
 -- What stands at a place of the program is an instruction of the text, or a nop.
-pub fillers : AreLayouts → (cs : List Chunk) (items : List Item) (insns : List Insn) → AreChunks cs items → (place : Place) (j : Insn) → insn_at (bundles_from cs insns) place ≡ Some j
+pub fillers : AreLayouts → (cs : List Chunk) (items : List Item) (insns : List Insn) → AreChunks cs items → (place : Place) (j : Insn)
+    → insn_at (bundles_from cs insns) place ≡ Some j
     → ((n : ℕ) × (n < length items) × (place ≡ place_of cs n)) ⊎ IsFiller j
 fillers laws cs items insns are place j here =
     let lies = lies_in (bundles_from cs insns) place (subst IsSome (sym here) refl) in
     let less = slice_get_within (bundles_from cs insns) place.bundle lies.bundle lies.is in
     let chunk = element cs place.bundle (subst (λ m. place.bundle < m) (length-bundles cs insns) less) in
     let put = put_at laws cs items place.bundle chunk.0 are chunk.1 in
-    of chunk.0 chunk.1 put (sym (insn_there cs insns place.bundle place.slot chunk.0 chunk.1) ∙ here) (find_slot (layout_of chunk.0).1 place.slot)
+    of chunk.0 chunk.1 put (sym (insn_there cs insns place.bundle place.slot chunk.0 chunk.1) ∙ here)
+    (find_slot (layout_of chunk.0).1 place.slot)
   where
     of : (c : Chunk) → slice_get cs place.bundle ≡ Some c → IsPut cs items place.bundle c
         → slot_insn (filled (layout_of c).0 (layout_of c).1 (part_of cs place.bundle c insns)).slots place.slot ≡ Some j
@@ -117,10 +124,15 @@ fillers laws cs items insns are place j here =
     of c chunk put is (inl (offset, at)) =
         let within = slice_get_within (layout_of c).1 offset place.slot at in
         let count = put.count in
-        let in_chunk : IsAt cs (held cs place.bundle + offset) place.bundle offset c = record { there = chunk; inside = omega arith; number = refl } in
+        let in_chunk : IsAt cs (held cs place.bundle + offset) place.bundle offset c =
+        record { there = chunk; inside = omega arith; number = refl } in
         let other = placed laws cs items (held cs place.bundle + offset) place.bundle offset c are in_chunk in
         let same : other.slot ≡ place.slot = same_Some other.slot place.slot (sym other.there ∙ at) in
-        inl (held cs place.bundle + offset, below_all cs items (held cs place.bundle + offset) place.bundle offset c laws are in_chunk, sym (other.place ∙ ap (in_bundle place.bundle) same))
+        inl (
+          held cs place.bundle + offset,
+          below_all cs items (held cs place.bundle + offset) place.bundle offset c laws are in_chunk,
+          sym (other.place ∙ ap (in_bundle place.bundle) same),
+        )
     of c chunk put is (inr none) =
         let order = laws.holds c.wanted c.end (layout_of c).0 (layout_of c).1 (part_of cs place.bundle c insns) put.laid in
         inr (filler (slice_get (units_of (layout_of c).0) place.slot) j (order.nops place.slot j is none))

@@ -39,14 +39,16 @@ length-targeted f n (item ∷ items) [] same = absurd (omega arith)
 length-targeted f n (item ∷ items) (target ∷ targets) same = ap suc (length-targeted f (n + 1) items targets (omega arith))
 
 targeted_at : (f : ℕ → ℕ) (first n : ℕ) (items : List Item) (targets : List (Option Address)) (item : Item) (target : Option Address)
-    → slice_get items n ≡ Some item → slice_get targets n ≡ Some target → slice_get (targeted_from f first items targets) n ≡ Some (put f (first + n) item target)
+    → slice_get items n ≡ Some item → slice_get targets n ≡ Some target
+    → slice_get (targeted_from f first items targets) n ≡ Some (put f (first + n) item target)
 targeted_at f first n [] targets item target there aim = absurd (cc)
 targeted_at f first n (x ∷ items) [] item target there aim = absurd (cc)
 targeted_at f first zero (x ∷ items) (y ∷ targets) item target there aim =
     let number : first ≡ first + 0 = omega arith in
     let one : x ≡ item = cc in
     let two : y ≡ target = cc in
-    ap (λ (n : ℕ). Some (put f n x y)) number ∙ ap (λ (x : Item). Some (put f (first + 0) x y)) one ∙ ap (λ (y : Option Address). Some (put f (first + 0) item y)) two
+    ap (λ (n : ℕ). Some (put f n x y)) number ∙ ap (λ (x : Item). Some (put f (first + 0) x y)) one
+    ∙ ap (λ (y : Option Address). Some (put f (first + 0) item y)) two
 targeted_at f first (suc n) (x ∷ items) (y ∷ targets) item target there aim =
     let number : first + 1 + n ≡ first + suc n = omega arith in
     targeted_at f (first + 1) n items targets item target there aim ∙ ap (λ (n : ℕ). Some (put f n item target)) number
@@ -74,22 +76,26 @@ item_at s n loose less =
       aim = two.1;
       listed = subst (λ (o : Option Item). IfSome o (λ i. IsListed i.insn)) one.1 (loose.listed n);
       aimed = subst (λ (o : Option (Option Address)). IfSome o (IsTargetOf s.items one.0.insn.op)) two.1
-          (subst (λ (o : Option Item). IfSome o (λ i. IfSome (slice_get s.targets n) (IsTargetOf s.items i.insn.op))) one.1 (loose.named n));
+          (subst (λ (o : Option Item). IfSome o (λ i. IfSome (slice_get s.targets n) (IsTargetOf s.items i.insn.op))) one.1
+          (loose.named n));
       put_in = λ f. targeted_at f 0 n s.items s.targets one.0 two.0 one.1 two.1 ∙ ap (λ (n : ℕ). Some (put f n one.0 two.0)) number;
     }
 
 -- There are as many of them as items.
 pub within_items : (s : Loose) (f : ℕ → ℕ) (n : ℕ) (i : Insn) → IsLoose s → slice_get (targeted f s) n ≡ Some i → n < length s.items
-within_items s f n i loose there = subst (λ m. n < m) (length-targeted f 0 s.items s.targets loose.targets) (slice_get_within (targeted f s) n i there)
+within_items s f n i loose there =
+    subst (λ m. n < m) (length-targeted f 0 s.items s.targets loose.targets) (slice_get_within (targeted f s) n i there)
 
 -- What stands at a slot of a bundle is what its layout puts there.
 pub insn_there : (cs : List Chunk) (insns : List Insn) (k slot : ℕ) (c : Chunk) → slice_get cs k ≡ Some c
-    → insn_at (bundles_from cs insns) (in_bundle k slot) ≡ slot_insn (filled (layout_of c).0 (layout_of c).1 (part_of cs k c insns)).slots slot
+    → insn_at (bundles_from cs insns) (in_bundle k slot) ≡ slot_insn (filled (layout_of c).0 (layout_of c).1 (part_of cs k c insns)).slots
+    slot
 unfolding insn_at
 insn_there cs insns k slot c there = ap (λ o. bundle_insn o slot) (bundle_at cs insns k c there)
 
 -- Each instruction stands at its place.
-pub stands : AreLayouts → (cs : List Chunk) (items : List Item) (insns : List Insn) (n k j : ℕ) (c : Chunk) (i : Insn) → AreChunks cs items → IsAt cs n k j c
+pub stands : AreLayouts → (cs : List Chunk) (items : List Item) (insns : List Insn) (n k j : ℕ) (c : Chunk) (i : Insn) → AreChunks cs items
+    → IsAt cs n k j c
     → slice_get insns n ≡ Some i → insn_at (bundles_from cs insns) (place_of cs n) ≡ Some i
 stands laws cs items insns n k j c i are at there =
     let put = put_at laws cs items k c are at.there in
@@ -99,7 +105,8 @@ stands laws cs items insns n k j c i are at there =
     ∙ insn_there cs insns k place.slot c at.there
     ∙ laid.holds j place.slot i place.there (part_there cs insns n k j c at ∙ there)
 
-pub has_instructions : AreLayouts → (s : Loose) (cs : List Chunk) (f : ℕ → ℕ) (n : ℕ) → IsLoose s → AreChunks cs s.items → n < length s.items
+pub has_instructions : AreLayouts → (s : Loose) (cs : List Chunk) (f : ℕ → ℕ) (n : ℕ) → IsLoose s → AreChunks cs s.items
+    → n < length s.items
     → insn_at (bundles_from cs (targeted f s)) (place_of cs n) ≡ slice_get (targeted f s) n
 has_instructions laws s cs f n loose are less =
     let one = in_chunk cs s.items n are less in
@@ -131,7 +138,8 @@ leads_back m own =
     let back : pos own +ℤ (pos m -ℤ pos own) ≡ pos m = +ℤ_comm (pos own) (pos m -ℤ pos own) ∙ -ℤ-+ℤ_cancel (pos m) (pos own) in
     ap (λ (z : ℤ). Some (first_of (nat_abs z))) back
 
-leads_on : (x : Op) (m own named by : ℕ) (place : Place) → is_some (addressed x (Bundle named) by) ≡ true → target_at own (displacement_of (action_of (unwrap_or (addressed x (Bundle m) own) x))) ≡ Some place
+leads_on : (x : Op) (m own named by : ℕ) (place : Place) → is_some (addressed x (Bundle named) by) ≡ true
+    → target_at own (displacement_of (action_of (unwrap_or (addressed x (Bundle m) own) x))) ≡ Some place
     → (n other : ℕ) → target_at other (displacement_of (action_of (unwrap_or (addressed x (Bundle n) other) x))) ≡ Some (first_of n)
 leads_on (op.ChkS unit r2 disp) m own named by place some leads n other = leads_back n other
 leads_on (op.ChkA clear r1 disp) m own named by place some leads n other = leads_back n other
@@ -141,7 +149,8 @@ leads_on (op.BrCall b1 wh many clr disp) m own named by place some leads n other
 leads_on (op.Movl r1 imm) m own named by place some leads n other = absurd (cc)
 leads_on x m own named by place some leads n other = absurd (cc)
 
-leads_nowhere : (x : Op) (at own : ℕ) (place : Place) → is_some (addressed x (Byte at) own) ≡ true → target_at own (displacement_of (action_of (unwrap_or (addressed x (Byte at) own) x))) ≢ Some place
+leads_nowhere : (x : Op) (at own : ℕ) (place : Place) → is_some (addressed x (Byte at) own) ≡ true
+    → target_at own (displacement_of (action_of (unwrap_or (addressed x (Byte at) own) x))) ≢ Some place
 leads_nowhere (op.Movl r1 imm) at own place some leads = cc
 leads_nowhere x at own place some leads = cc
 

@@ -45,7 +45,8 @@ BundledHasStops =
 
 -- There is one stop at most behind each instruction, and none before the first.
 pub record HasStopsApart (p : Program) (at : ℕ → Place) : Type 0 where
-  pub one : (n : ℕ) (x y : Place) → IsBetween p at n x → IsBetween p at n y → is_stopped p.bundles x ≡ true → is_stopped p.bundles y ≡ true → x ≡ y
+  pub one : (n : ℕ) (x y : Place) → IsBetween p at n x → IsBetween p at n y → is_stopped p.bundles x ≡ true → is_stopped p.bundles y ≡ true
+      → x ≡ y
   pub none_before : (x : Place) → IsPlaceOf p.bundles x → IsBefore x (at 0) → is_stopped p.bundles x ≡ false
 
 abbrev pub BundledHasOneStop : Type 0
@@ -55,7 +56,8 @@ BundledHasOneStop = (s : Loose) (cs : List Chunk) → IsLoose s → AreChunksOf 
 pub record HasLastStop (p : Program) (last : Place) (wanted : Bool) : Type 0 where
   pub some : wanted ≡ true → (x : Place) × IsPlaceOf p.bundles x × ¬ IsBefore x last × (is_stopped p.bundles x ≡ true)
   pub none : wanted ≡ false → (x : Place) → IsPlaceOf p.bundles x → ¬ IsBefore x last → is_stopped p.bundles x ≡ false
-  pub one : (x y : Place) → IsPlaceOf p.bundles x → IsPlaceOf p.bundles y → ¬ IsBefore x last → ¬ IsBefore y last → is_stopped p.bundles x ≡ true → is_stopped p.bundles y ≡ true → x ≡ y
+  pub one : (x y : Place) → IsPlaceOf p.bundles x → IsPlaceOf p.bundles y → ¬ IsBefore x last → ¬ IsBefore y last
+      → is_stopped p.bundles x ≡ true → is_stopped p.bundles y ≡ true → x ≡ y
 
 abbrev pub BundledHasLastStop : Type 0
 BundledHasLastStop =

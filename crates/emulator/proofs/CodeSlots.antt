@@ -53,7 +53,9 @@ numbered_back None h = refl
 numbered_back (Some place) h = let e = place_at-number place h.0 in grind (arith, nat_tests, h.1)
 
 -- The list of the slots of all places says of each number what stands there.
-pub all_code_slots : (p : Program) (list : List CodeSlot) → length list ≡ 3 * length p.bundles → ((n : ℕ) → n < length list → IsCodeSlot p.bundles n (get_or list n no_slot)) → (n : ℕ) → IsCodeSlot p.bundles n (get_or list n no_slot)
+pub all_code_slots : (p : Program) (list : List CodeSlot) → length list ≡ 3 * length p.bundles
+    → ((n : ℕ) → n < length list → IsCodeSlot p.bundles n (get_or list n no_slot)) → (n : ℕ)
+    → IsCodeSlot p.bundles n (get_or list n no_slot)
 all_code_slots p list count each n = by_end (cases_lt n (length list))
   where
     by_end : (n < length list) ⊎ (length list ≤ n) → IsCodeSlot p.bundles n (get_or list n no_slot)

@@ -18,7 +18,8 @@ rest_none zero m rest e = refl
 rest_none (suc n) m rest e = absurd (omega (arith, e))
 
 slots_are : (p : Program) (m : Progress) → m.end ≡ None → (advanced p m).slots ≡ slots_after m.slots (seq_step p m.state).how
-slots_are p m running = ap (λ n. n.slots) (advanced_is p m running) ∙ ap (λ s. slots_after s (seq_step p m.state).how) (opened_keeps m).slots
+slots_are p m running =
+    ap (λ n. n.slots) (advanced_is p m running) ∙ ap (λ s. slots_after s (seq_step p m.state).how) (opened_keeps m).slots
 
 counted : (p : Program) (m next : Progress) → m.end ≡ None → next ≡ advanced p m → next.groups ≡ (opened m).groups
 counted p m next running is = ap (λ n. n.groups) (is ∙ advanced_is p m running)
@@ -34,7 +35,8 @@ pub record IsOver (p : Program) (m next : Progress) (how : How) : Type 0 where
   pub event : record { number = next.groups; first = next.first; last = m.state.place; slots = m.slots + 1; how = how } ≡ event_further p m
 
 told : (most : ℕ) (p : Program) (m next : Progress) (how : How) → m.end ≡ None → next ≡ advanced p m → (seq_step p m.state).how ≡ Some how
-    → record { number = next.groups; first = next.first; last = m.state.place; slots = m.slots + 1; how = how } ≡ event_to_end (suc most) p m
+    → record { number = next.groups; first = next.first; last = m.state.place; slots = m.slots + 1; how = how }
+    ≡ event_to_end (suc most) p m
 told most p m next how running is e =
     let on : next ≡ stepped (opened m) (seq_step p m.state) = is ∙ advanced_is p m running in
     let state = (opened_keeps m).state in
@@ -42,7 +44,8 @@ told most p m next how running is e =
     let here = ap (λ w. event_by (opened m) w (event_to_end most p (advanced p m))) e in
     sym (here ∙ cc)
 
-pub is_over : (p : Program) (m next : Progress) (how : How) → m.end ≡ None → next ≡ advanced p m → (seq_step p m.state).how ≡ Some how → IsOver p m next how
+pub is_over : (p : Program) (m next : Progress) (how : How) → m.end ≡ None → next ≡ advanced p m → (seq_step p m.state).how ≡ Some how
+    → IsOver p m next how
 unfolding group_further event_further
 is_over p m next how running is e =
     let none : (advanced p m).slots ≡ 0 = slots_are p m running ∙ ap (slots_after m.slots) e in
@@ -62,7 +65,8 @@ pub record HasSameRest (p : Program) (m next : Progress) : Type 0 where
   pub slots : next.slots ≡ m.slots + 1
   pub room : (left : ℕ) → CanCount m left → CanCount next left
 
-pub is_within : (p : Program) (m next : Progress) → IsProgram p → IsUnderWay p m → m.end ≡ None → next ≡ advanced p m → (seq_step p m.state).how ≡ None → HasSameRest p m next
+pub is_within : (p : Program) (m next : Progress) → IsProgram p → IsUnderWay p m → m.end ≡ None → next ≡ advanced p m
+    → (seq_step p m.state).how ≡ None → HasSameRest p m next
 is_within p m next program u running is e =
     let more : (advanced p m).slots ≡ m.slots + 1 = slots_are p m running ∙ ap (slots_after m.slots) e in
     let rest = rest_of_group p m program u running (λ none. absurd (omega (arith, more, none))) in
@@ -78,11 +82,13 @@ is_within p m next program u running is e =
     })
 
 -- The groups that are left come to the same from the end of one group on.
-pub over_groups : (p : Program) (m next : Progress) (left : ℕ) → 0 < left → next ≡ group_further p m → groups_further (left - 1) p next ≡ groups_further left p m
+pub over_groups : (p : Program) (m next : Progress) (left : ℕ) → 0 < left → next ≡ group_further p m
+    → groups_further (left - 1) p next ≡ groups_further left p m
 over_groups p m next zero some e = absurd (omega (arith, some))
 over_groups p m next (suc n) some e = let less : suc n - 1 ≡ n = omega arith in rw less (ap (groups_further n p) e)
 
-pub within_groups : (p : Program) (m next : Progress) (left : ℕ) → 0 < left → group_further p next ≡ group_further p m → groups_further left p next ≡ groups_further left p m
+pub within_groups : (p : Program) (m next : Progress) (left : ℕ) → 0 < left → group_further p next ≡ group_further p m
+    → groups_further left p next ≡ groups_further left p m
 within_groups p m next zero some e = absurd (omega (arith, some))
 within_groups p m next (suc n) some e = ap (groups_further n p) e
 

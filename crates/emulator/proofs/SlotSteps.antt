@@ -31,7 +31,8 @@ use Rattle.emulator.specs.Codes.{numbered, IsCodeSlotOf, IsCodeSlot}
 use Rattle.emulator.specs.Outcomes.{outcome_of}
 use Rattle.emulator.specs.Progress.{state_at, state_of, progress_of, settled_step, arrived, IsHere}
 
-here_of : (p : Program) (s : State) (insn : Insn) (slot : Slot) (d : CodeSlot) → IsProgram p → insn_at p.bundles s.place ≡ Some insn → slot_of p.bundles s.place insn ≡ slot → IsCodeSlotOf s.place.bundle slot d → IsHere p s d
+here_of : (p : Program) (s : State) (insn : Insn) (slot : Slot) (d : CodeSlot) → IsProgram p → insn_at p.bundles s.place ≡ Some insn
+    → slot_of p.bundles s.place insn ≡ slot → IsCodeSlotOf s.place.bundle slot d → IsHere p s d
 here_of p s insn slot d program at e is =
     let i = in_range p s.place insn program at in
     let few = bundle_small p.bundles s.place (subst IsSome (sym at) refl) in
@@ -47,7 +48,8 @@ here_of p s insn slot d program at e is =
     }
 
 -- At a place of the program stands what its number gives.
-pub slot_here : (p : Program) (c : Contents) (n : ℕ) (d : CodeSlot) → IsProgram p → IsPlaceOf p.bundles (place_at n) → IsCodeSlot p.bundles n d → IsHere p (state_at c (place_at n)) d
+pub slot_here : (p : Program) (c : Contents) (n : ℕ) (d : CodeSlot) → IsProgram p → IsPlaceOf p.bundles (place_at n)
+    → IsCodeSlot p.bundles n d → IsHere p (state_at c (place_at n)) d
 unfolding slot_at
 slot_here p c n d program is each =
     let i = insn_here p (state_at c (place_at n)) is in
@@ -55,19 +57,25 @@ slot_here p c n d program is each =
     here_of p (state_at c (place_at n)) i.0 slot d program i.1 refl (each slot (ap (option_map (slot_of p.bundles (place_at n))) i.1))
 
 -- Where there is no next place, a run that falls through ends.
-pub falls_off : (r : Run) (p : Program) (o : SlotEffect) (n : ℕ) → r.end ≡ None → o.next ≡ Falls → n ≡ NO_PLACE → numbered n ≡ next_of p.bundles (place_at r.number)
-    → stepped (progress_of r) (settled_step p (state_of r) (next_of p.bundles (place_at r.number)) (outcome_of r.state o)) ≡ progress_of (record r { end = Some (Fault FellOff (place_at r.number)); slots = 0 })
+pub falls_off : (r : Run) (p : Program) (o : SlotEffect) (n : ℕ) → r.end ≡ None → o.next ≡ Falls → n ≡ NO_PLACE
+    → numbered n ≡ next_of p.bundles (place_at r.number)
+    → stepped (progress_of r) (settled_step p (state_of r) (next_of p.bundles (place_at r.number)) (outcome_of r.state o))
+    ≡ progress_of (record r { end = Some (Fault FellOff (place_at r.number)); slots = 0 })
 falls_off r p o n running falls none e = rw falls (rw (← e, none) (cc))
 
 -- Else it goes on to that, or to a bundle, with a change.
-pub falls_on : (r : Run) (p : Program) (o : SlotEffect) (n : ℕ) → r.end ≡ None → o.next ≡ Falls → n ≢ NO_PLACE → numbered n ≡ next_of p.bundles (place_at r.number)
-    → stepped (progress_of r) (settled_step p (state_of r) (next_of p.bundles (place_at r.number)) (outcome_of r.state o)) ≡ arrived (progress_of r) (outcome_with r.state o.change Falls) (place_at n) (slots_after r.slots (how_falling (is_stopped p.bundles (place_at r.number))))
+pub falls_on : (r : Run) (p : Program) (o : SlotEffect) (n : ℕ) → r.end ≡ None → o.next ≡ Falls → n ≢ NO_PLACE
+    → numbered n ≡ next_of p.bundles (place_at r.number)
+    → stepped (progress_of r) (settled_step p (state_of r) (next_of p.bundles (place_at r.number)) (outcome_of r.state o))
+    ≡ arrived (progress_of r) (outcome_with r.state o.change Falls) (place_at n)
+    (slots_after r.slots (how_falling (is_stopped p.bundles (place_at r.number))))
 falls_on r p o n running falls some e =
     let there : numbered n ≡ Some (place_at n) = grind (arith, nat_tests) in
     let next : Some (place_at n) ≡ next_of p.bundles (place_at r.number) = sym there ∙ e in
     rw falls (rw (← next) (cc))
 
 pub goes_on : (r : Run) (p : Program) (o : SlotEffect) (next : Option Place) (bundle : ℕ) → r.end ≡ None → o.next ≡ Goes bundle
-    → stepped (progress_of r) (settled_step p (state_of r) next (outcome_of r.state o)) ≡ arrived (progress_of r) (outcome_with r.state o.change Falls) (first_of bundle) 0
+    → stepped (progress_of r) (settled_step p (state_of r) next (outcome_of r.state o)) ≡ arrived (progress_of r)
+    (outcome_with r.state o.change Falls) (first_of bundle) 0
 goes_on r p o None bundle running goes = rw goes (cc)
 goes_on r p o (Some next) bundle running goes = rw goes (cc)

@@ -26,7 +26,8 @@ abbrev pub state_of : Run → State
 state_of r = state_at r.state (place_at r.number)
 
 abbrev pub progress_of : Run → Progress
-progress_of r = record { state = state_of r; end = r.end; groups = r.groups; first = place_at r.first; slots = r.slots; range = r.state.range }
+progress_of r =
+    record { state = state_of r; end = r.end; groups = r.groups; first = place_at r.first; slots = r.slots; range = r.state.range }
 
 -- The step of an outcome with this next place.
 abbrev pub settled_step : Program → State → Option Place → Outcome → Step
@@ -47,4 +48,5 @@ pub record IsHere (p : Program) (s : State) (slot : CodeSlot) : Type 0 where
   pub target : HasTarget s.place.bundle slot.work
   pub next : numbered slot.next ≡ next_of p.bundles s.place
   pub stop : slot.stop ≡ is_stopped p.bundles s.place
-  pub step : seq_step p s ≡ settled_step p s (next_of p.bundles s.place) (guarded (site p s.place.bundle) slot.qp (action_of slot.work) s.registers s.memory s.registers.unat)
+  pub step : seq_step p s ≡ settled_step p s (next_of p.bundles s.place)
+      (guarded (site p s.place.bundle) slot.qp (action_of slot.work) s.registers s.memory s.registers.unat)

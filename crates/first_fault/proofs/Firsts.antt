@@ -3,7 +3,8 @@ use Rattle.std.proofs.Common.{◌≡◌, inl, inr, ℕ, zero, suc, ◌<◌, arit
 use Rattle.std.proofs.lemmas.Bool.{cases_order}
 
 -- One number is the first that fails.
-pub one_first : (Passes : ℕ → Type 0) (m n : ℕ) → ((k : ℕ) → k < m → Passes k) → ¬ Passes m → ((k : ℕ) → k < n → Passes k) → ¬ Passes n → m ≡ n
+pub one_first : (Passes : ℕ → Type 0) (m n : ℕ) → ((k : ℕ) → k < m → Passes k) → ¬ Passes m → ((k : ℕ) → k < n → Passes k) → ¬ Passes n
+    → m ≡ n
 one_first Passes m n before fails earlier other = elim (cases_order m n) [
   | inl same ↦ same
   | inr (inl less) ↦ absurd (fails (earlier m less))
@@ -19,6 +20,9 @@ one_more Passes count all last n inside = elim (cases_order n count) [
 ]
 
 -- Where no number is the first that fails, it can't be that not all pass.
-pub none_first : (Passes : ℕ → Type 0) (count : ℕ) → ((n : ℕ) → n < count → ((k : ℕ) → k < n → Passes k) → ¬ Passes n → ⊥) → (((n : ℕ) → n < count → Passes n) → ⊥) → ⊥
+pub none_first : (Passes : ℕ → Type 0) (count : ℕ) → ((n : ℕ) → n < count → ((k : ℕ) → k < n → Passes k) → ¬ Passes n → ⊥)
+    → (((n : ℕ) → n < count → Passes n) → ⊥) → ⊥
 none_first Passes zero none go = go (λ n inside. absurd (omega arith))
-none_first Passes (suc count) none go = none_first Passes count (λ n inside. none n (omega arith)) (λ all. none count (omega arith) all (λ last. go (one_more Passes count all last)))
+none_first Passes (suc count) none go =
+    none_first Passes count (λ n inside. none n (omega arith)) (λ all.
+    none count (omega arith) all (λ last. go (one_more Passes count all last)))

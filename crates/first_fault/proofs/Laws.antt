@@ -15,7 +15,8 @@ pub unless_sound : {Fault : Type 0} (Holds : Type 0) (f : Fault) → IsSound (un
 unless_sound Holds f = record { one = λ a b fails also. refl; none = λ a fails holds. fails holds }
 
 -- There is at most one first fault.
-pub one_fault : {Fault : Type 0} (stages : List (Stage Fault)) → AreSound stages → (f g : Fault) → IsFirstFault stages f → IsFirstFault stages g → f ≡ g
+pub one_fault : {Fault : Type 0} (stages : List (Stage Fault)) → AreSound stages → (f g : Fault) → IsFirstFault stages f
+    → IsFirstFault stages g → f ≡ g
 one_fault [] sound f g a b = absurd a
 one_fault (s ∷ later) sound f g (inl a) (inl b) = a.1 ∙ ap s.fault (sound.0.one a.0 b.0 a.2 b.2) ∙ sym b.1
 one_fault (s ∷ later) sound f g (inl a) (inr b) = absurd (sound.0.none a.0 a.2 b.0)
@@ -37,7 +38,8 @@ AreDecided [] = Unit {0}
 AreDecided (s ∷ later) = IsDecided s × AreDecided later
 
 -- Where each stage finds a fault or is passed, there is a first fault or every stage is passed.
-pub some_fault : {Fault : Type 0} (stages : List (Stage Fault)) → AreDecided stages → ((f : Fault) × IsFirstFault stages f) ⊎ ArePassed stages
+pub some_fault : {Fault : Type 0} (stages : List (Stage Fault)) → AreDecided stages
+    → ((f : Fault) × IsFirstFault stages f) ⊎ ArePassed stages
 some_fault [] decided = inr tt
 some_fault (s ∷ later) (inl found, others) = inl (s.fault found.0, inl (found.0, refl, found.1))
 some_fault (s ∷ later) (inr passed, others) = elim (some_fault later others) [
@@ -58,7 +60,8 @@ pub unless_not_open : {Fault : Type 0} (Holds : Type 0) (f : Fault) → IsNotOpe
 unless_not_open Holds f = λ none go. none tt go
 
 -- Such stages aren't without a first fault unless every one is passed.
-pub not_without : {Fault : Type 0} (stages : List (Stage Fault)) → AreNotOpen stages → ((f : Fault) → IsFirstFault stages f → ⊥) → (ArePassed stages → ⊥) → ⊥
+pub not_without : {Fault : Type 0} (stages : List (Stage Fault)) → AreNotOpen stages → ((f : Fault) → IsFirstFault stages f → ⊥)
+    → (ArePassed stages → ⊥) → ⊥
 not_without [] closed none go = go tt
 not_without (s ∷ later) closed none go =
     closed.0

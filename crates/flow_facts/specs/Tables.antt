@@ -86,7 +86,8 @@ pub record HasCome (table : List Known) (to : Place) (past : Pairs → Pairs) (c
 -- the rows of the first word have changed since that was last done. It has changed in no rows but those of the last word.
 abbrev pub JoinsThere : (ℕ → ℕ → PairRule) → (changed : ℕ) → (before : Pairs) → (old new : Known) → (rows : ℕ) → Type 0
 JoinsThere rules changed before None new rows = (f : Table) × (new ≡ Some f) × (pairs_of f ≡ pairs_by before rules) × HasAllRows rows
-JoinsThere rules changed before (Some old) new rows = (f : Table) × (new ≡ Some f) × Narrows rules changed before (pairs_of old) (pairs_of f) rows
+JoinsThere rules changed before (Some old) new rows =
+    (f : Table) × (new ≡ Some f) × Narrows rules changed before (pairs_of old) (pairs_of f) rows
 
 -- What came is joined into the place of this number, of which it changed no rows but those of the word, and where these are
 -- any, the table can lose less.
@@ -154,11 +155,13 @@ pub record IsBetweenSteps (p : Program) (table : List Known) (dirty : List ℕ) 
   pub dirty_length : length dirty ≡ place_count p
   pub witnessed : IsWitnessed p table
   pub entries : (bundle : ℕ) → IsEntry p bundle → AtMost table (first_of bundle) (known_first p bundle)
-  pub come : (from : Place) (e : Edge) (to : Place) → HasEdge p from e to → HasCome table to (pairs_past p from e) (marked dirty from) (known_at table from)
+  pub come : (from : Place) (e : Edge) (to : Place) → HasEdge p from e to
+      → HasCome table to (pairs_past p from e) (marked dirty from) (known_at table from)
 
 -- What was known at a place has come along its edges of this sort. For each place that this made dirty the table has
 -- lost something, and the places to which no such edge leads know what they knew.
-pub record Passed (p : Program) (from : Place) (e : Edge) (before : Pairs) (table : List Known) (dirty : List ℕ) (table' : List Known) (dirty' : List ℕ) : Type 0 where
+pub record Passed (p : Program) (from : Place) (e : Edge) (before : Pairs) (table : List Known) (dirty : List ℕ) (table' : List Known)
+    (dirty' : List ℕ) : Type 0 where
   pub witnessed : IsWitnessed p table'
   pub others : (place : Place) → (HasEdge p from e place → ⊥) → known_at table' place ≡ known_at table place
   pub come : (to : Place) → HasEdge p from e to → AtMost table' to (pairs_past p from e before)

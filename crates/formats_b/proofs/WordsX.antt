@@ -58,8 +58,11 @@ one_insn l w i j of-i of-j =
     sym (whole_only i l w of-i) ∙ ap (λ (p : Insn). record { qp = p.qp; op = whole_op l p.op }) same ∙ whole_only j l w of-j
 
 pub one_word : OneLongWord
-one_word i l m v w of-v of-w =
-    (of-v.low ∙ sym of-w.low, only_word rows (row_index_of (opcode_of (slot_op i.op))) (slot_part i) v w (is_row_index_of (opcode_of (slot_op i.op))) of-v.code of-w.code)
+one_word i l m v w of-v of-w = (
+  of-v.low ∙ sym of-w.low,
+  only_word rows (row_index_of (opcode_of (slot_op i.op)))
+      (slot_part i) v w (is_row_index_of (opcode_of (slot_op i.op))) of-v.code of-w.code,
+)
 
 -- A listed instruction has a row for its part, and its immediate has its bits.
 pub row_of_x : (i : Insn) → IsListedX i → AsRow rows (row_index_of (opcode_of (slot_op i.op))) (slot_part i) × IsWithin i.op

@@ -11,7 +11,9 @@ use Rattle.frame_shapes.specs.declared.fault.StackFault.{StackFault}
 use Rattle.frame_shapes.specs.declared.fault.StackFault.TheVariants.{BadFrame, Underflow, StackLimit}
 use Rattle.frame_shapes.specs.Faults.{kind_of, return_fault_within, ReturnFaultIsThat}
 
-by_tests : (bad under over : Bool) → option_map kind_of (if bad then Some BadFrame else if under then Some Underflow else if over then Some StackLimit else None) ≡ (if bad then Some kind.BadFrame else if under then Some kind.Underflow else if over then Some kind.StackLimit else None)
+by_tests : (bad under over : Bool) → option_map kind_of (if bad then Some BadFrame else if under then Some Underflow else if over then Some
+    StackLimit else None) ≡ (if bad then Some kind.BadFrame else if under then Some kind.Underflow else if over then Some
+    kind.StackLimit else None)
 by_tests true under over = refl
 by_tests false true over = refl
 by_tests false false true = refl
@@ -22,7 +24,8 @@ unfolding return_fault_within return_fault
 return_fault_is base f = by_tests (not (is_frame f)) (nat_lt base f.sol) (nat_lt STACK_LIMIT (base - f.sol + f.sof))
 
 -- A return that has no fault has none in a stack of that limit.
-pub return_free : (limit base : ℕ) (f : FrameShape) → limit ≡ STACK_LIMIT → return_fault base f ≡ None → return_fault_within limit base f ≡ None
+pub return_free : (limit base : ℕ) (f : FrameShape) → limit ≡ STACK_LIMIT → return_fault base f ≡ None
+    → return_fault_within limit base f ≡ None
 return_free limit base f e free = rw e (none_of (return_fault_within STACK_LIMIT base f) (return_fault_is base f ∙ free))
   where
     none_of : (o : Option StackFault) → option_map kind_of o ≡ None → o ≡ None
@@ -38,7 +41,8 @@ pub rebased : (base to pfs : ℕ) → record (marked_frame base pfs) { base = to
 unfolding marked_frame
 rebased base to pfs = refl
 
-end_of : (base pfs : ℕ) → (returned_frame base pfs).base + (returned_frame base pfs).sof ≡ base - (marked_frame base pfs).sol + (marked_frame base pfs).sof
+end_of : (base pfs : ℕ) → (returned_frame base pfs).base + (returned_frame base pfs).sof
+    ≡ base - (marked_frame base pfs).sol + (marked_frame base pfs).sof
 unfolding marked_frame
 end_of base pfs = refl
 
@@ -47,7 +51,8 @@ unfolding marked_frame
 base_falls base pfs = omega arith
 
 -- A return that has no fault enters a frame that has room.
-pub free_frame : (limit base pfs : ℕ) (f : FrameShape) → f ≡ returned_frame base pfs → return_fault_within limit base (marked_frame base pfs) ≡ None → IsFrame f × (f.base + f.sof ≤ limit) × (f.base ≤ base)
+pub free_frame : (limit base pfs : ℕ) (f : FrameShape) → f ≡ returned_frame base pfs
+    → return_fault_within limit base (marked_frame base pfs) ≡ None → IsFrame f × (f.base + f.sof ≤ limit) × (f.base ≤ base)
 free_frame limit base pfs f is free =
     let may = may_return limit base (marked_frame base pfs) free in
     let within = may.within in

@@ -25,14 +25,16 @@ some_at xs m l = elim (slice_get_cases xs m).1 [
 pub indexed : (xs : List EarlierSlot) (m : ℕ) (a : EarlierSlot) → m < length xs → a ≡ get_or xs m a → IsAt xs m a
 indexed xs m a l e = record { short = l; is = sym e }
 
-pub at_push : (xs : List EarlierSlot) (e : EarlierSlot) (m : ℕ) (b : EarlierSlot) → IsAt (xs ++ e ∷ []) m b → IsAt xs m b ⊎ ((m ≡ length xs) × (b ≡ e))
+pub at_push : (xs : List EarlierSlot) (e : EarlierSlot) (m : ℕ) (b : EarlierSlot) → IsAt (xs ++ e ∷ []) m b
+    → IsAt xs m b ⊎ ((m ≡ length xs) × (b ≡ e))
 at_push xs e m b h = elim (cases_lt m (length xs)) [
   | inl l ↦ inl (record { short = l; is = sym (get_or_append_left xs (e ∷ []) b m l) ∙ h.is })
   | inr l ↦ (let at : length xs ≡ m = omega (arith, h.short, length-append xs (e ∷ [])) in inr (sym at, sym h.is ∙ get_or_push xs e b m at))
 ]
 
 pub pushed_left : (xs : List EarlierSlot) (e : EarlierSlot) (m : ℕ) (b : EarlierSlot) → IsAt xs m b → IsAt (xs ++ e ∷ []) m b
-pushed_left xs e m b h = record { short = omega (arith, h.short, length-append xs (e ∷ [])); is = get_or_append_left xs (e ∷ []) b m h.short ∙ h.is }
+pushed_left xs e m b h =
+    record { short = omega (arith, h.short, length-append xs (e ∷ [])); is = get_or_append_left xs (e ∷ []) b m h.short ∙ h.is }
 
 pub pushed_last : (xs : List EarlierSlot) (e : EarlierSlot) → IsAt (xs ++ e ∷ []) (length xs) e
 pushed_last xs e = record { short = omega (arith, length-append xs (e ∷ [])); is = get_or_push xs e e (length xs) refl }

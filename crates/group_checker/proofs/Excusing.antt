@@ -23,7 +23,9 @@ pub record IsOpenOn (g : Graph) (has_stop : Place → Bool) (i j : Place) (guard
   pub stays : ¬ IsExcused g has_stop walk i guard other
 
 -- A slot from the n-th on is passed by each walk through the n-th, and not before it.
-from_on : (g : Graph) (has_stop : Place → Bool) (es : List EarlierSlot) (j : Place) (n m : ℕ) (e b : EarlierSlot) (w : Walk) → IsWindow g has_stop es j → IsAt es n e → IsAt es m b → n ≤ m → IsThrough g has_stop e.place j w → Contains (group_since has_stop w) b.place × ¬ IsBefore b.place e.place
+from_on : (g : Graph) (has_stop : Place → Bool) (es : List EarlierSlot) (j : Place) (n m : ℕ) (e b : EarlierSlot) (w : Walk)
+    → IsWindow g has_stop es j → IsAt es n e → IsAt es m b → n ≤ m → IsThrough g has_stop e.place j w
+    → Contains (group_since has_stop w) b.place × ¬ IsBefore b.place e.place
 from_on g has_stop es j n m e b w win at here late through = of (cases_eq m n)
   where
     of : (m ≡ n) ⊎ (m ≡ n → ⊥) → Contains (group_since has_stop w) b.place × ¬ IsBefore b.place e.place
@@ -39,10 +41,12 @@ from_on g has_stop es j n m e b w win at here late through = of (cases_eq m n)
 -- A pair that is known is one of predicates.
 below_64 : (rows : Table) (guard other : ℕ) → pairs_of rows guard other ≡ true → guard < 64
 unfolding pairs_of
-below_64 rows guard other e = let both = and_parts (in_range guard other) (truth rows guard other) e in (in_range_parts guard other both.0).0
+below_64 rows guard other e =
+    let both = and_parts (in_range guard other) (truth rows guard other) e in (in_range_parts guard other both.0).0
 
 -- Where the test fails, some walk doesn't excuse the two.
-pub opens : (g : Graph) (has_stop : Place → Bool) (es : List EarlierSlot) (j : Place) (n : ℕ) (e : EarlierSlot) (guard other : ℕ) → IsWindow g has_stop es j → IsAt es n e → excused_by e guard other ≡ false → IsOpenOn g has_stop e.place j guard other
+pub opens : (g : Graph) (has_stop : Place → Bool) (es : List EarlierSlot) (j : Place) (n : ℕ) (e : EarlierSlot) (guard other : ℕ)
+    → IsWindow g has_stop es j → IsAt es n e → excused_by e guard other ≡ false → IsOpenOn g has_stop e.place j guard other
 opens g has_stop es j n e guard other win at fails = elim (cases_Bool (pairs_of e.known guard other)) [
   | inl t ↦ (elim (and_cases (pairs_of e.known guard other) (not (has_bit e.written guard)) fails) [
     | inl q ↦ unknown q
@@ -65,20 +69,31 @@ opens g has_stop es j n e guard other win at fails = elim (cases_Bool (pairs_of 
         record { walk = w; through = through; stays = λ y. true≢false (sym x.writes ∙ y.unwritten x.slot.place place.0 place.1) }
 
 -- Where the test holds, each walk excuses the two.
-pub excuses : (g : Graph) (has_stop : Place → Bool) (es : List EarlierSlot) (j : Place) (n : ℕ) (e : EarlierSlot) (guard other : ℕ) (w : Walk) → IsWindow g has_stop es j → IsAt es n e → excused_by e guard other ≡ true → IsThrough g has_stop e.place j w → IsExcused g has_stop w e.place guard other
+pub excuses : (g : Graph) (has_stop : Place → Bool) (es : List EarlierSlot) (j : Place) (n : ℕ) (e : EarlierSlot) (guard other : ℕ)
+    (w : Walk) → IsWindow g has_stop es j → IsAt es n e → excused_by e guard other ≡ true → IsThrough g has_stop e.place j w
+    → IsExcused g has_stop w e.place guard other
 excuses g has_stop es j n e guard other w win at holds through =
     let both = and_parts (pairs_of e.known guard other) (not (has_bit e.written guard)) holds in
     let is = win.carried n e at in
     record {
       known = (is.known.sound w through).each guard other both.0;
-      unwritten = λ k c late. unwritten (below_64 e.known guard other both.0) (not-true (has_bit e.written guard) both.1) k (win.all w through.there k c) late;
+      unwritten =
+          λ k c late. unwritten (below_64 e.known guard other both.0)
+          (not-true (has_bit e.written guard) both.1) k (win.all w through.there k c) late;
     }
   where
-    unwritten : guard < 64 → has_bit e.written guard ≡ false → (k : Place) → HasPlace es k → ¬ IsBefore k e.place → may_write_guard guard (accesses_at g k) ≡ false
+    unwritten : guard < 64 → has_bit e.written guard ≡ false → (k : Place) → HasPlace es k → ¬ IsBefore k e.place
+        → may_write_guard guard (accesses_at g k) ≡ false
     unwritten small none k has late = elim (cases_lt has.index n) [
       | inl l ↦ absurd (late (subst (λ (q : Place). IsBefore q e.place) has.is (win.rises has.index n has.slot e has.at at l)))
       | inr l ↦ elim (cases_Bool (may_write_guard guard (accesses_at g k))) [
-        | inl t ↦ (let writer : HasWriter g es n guard = record { index = has.index; slot = has.slot; late = l; at = has.at; writes = subst (λ (q : Place). may_write_guard guard (accesses_at g q) ≡ true) (sym has.is) t } in
+        | inl t ↦ (let writer : HasWriter g es n guard = record {
+          index = has.index;
+          slot = has.slot;
+          late = l;
+          at = has.at;
+          writes = subst (λ (q : Place). may_write_guard guard (accesses_at g q) ≡ true) (sym has.is) t;
+        } in
             absurd (true≢false (sym ((win.written n e at).has guard small writer) ∙ none)))
         | inr f ↦ f
       ]

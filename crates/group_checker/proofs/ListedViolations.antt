@@ -28,27 +28,33 @@ record IsBy (first second : Place) (rule : Rule) (resources : ResourceSet) (v : 
   rule_is : v.rule ≡ rule
   has : has_resource resources v.resource ≡ true
 
-in_by : (first second : Place) (rule : Rule) (resources : ResourceSet) (v : Violation) → IsBy first second rule resources v → Contains (violations_by first second rule resources) v
+in_by : (first second : Place) (rule : Rule) (resources : ResourceSet) (v : Violation) → IsBy first second rule resources v
+    → Contains (violations_by first second rule resources) v
 unfolding violations_by
 in_by first second rule resources v h =
-    let same : violation second first rule v.resource ≡ v = λ i. record { second = sym h.pair.1 i; first = sym h.pair.0 i; rule = sym h.rule_is i; resource = v.resource } in
-    subst (Contains (violations_by first second rule resources)) same (in_map (violation second first rule) (resources_in resources) v.resource (in_resources resources v.resource h.has))
+    let same : violation second first rule v.resource ≡ v =
+    λ i. record { second = sym h.pair.1 i; first = sym h.pair.0 i; rule = sym h.rule_is i; resource = v.resource } in
+    subst (Contains (violations_by first second rule resources)) same
+    (in_map (violation second first rule) (resources_in resources) v.resource (in_resources resources v.resource h.has))
 
-from_by : (first second : Place) (rule : Rule) (resources : ResourceSet) (v : Violation) → Contains (violations_by first second rule resources) v → IsBy first second rule resources v
+from_by : (first second : Place) (rule : Rule) (resources : ResourceSet) (v : Violation)
+    → Contains (violations_by first second rule resources) v → IsBy first second rule resources v
 unfolding violations_by
 from_by first second rule resources v c =
     let (q, m, e) = from_map (violation second first rule) (resources_in resources) v c in
     subst (IsBy first second rule resources) e (record { pair = (refl, refl); rule_is = refl; has = from_resources resources q m })
 
 -- As many as the set has resources.
-pub by_length : (first second : Place) (rule : Rule) (resources : ResourceSet) → length (violations_by first second rule resources) ≡ length (resources_in resources)
+pub by_length : (first second : Place) (rule : Rule) (resources : ResourceSet)
+    → length (violations_by first second rule resources) ≡ length (resources_in resources)
 unfolding violations_by
 by_length first second rule resources = length-map (resources_in resources) (violation second first rule)
 
 by_rises : (first second : Place) (rule : Rule) (resources : ResourceSet) → Rises (violations_by first second rule resources)
 unfolding violations_by
 by_rises first second rule resources =
-    sorted_map (violation second first rule) resource_cmp compare (λ q r. compared_by_resource second first rule q r) (resources_in resources) (resources_rise resources)
+    sorted_map (violation second first rule) resource_cmp compare (λ q r. compared_by_resource second first rule q r)
+    (resources_in resources) (resources_rise resources)
 
 module _ (first second : Place) (b : Broken) where
   abbrev by : Rule → List Violation
@@ -63,7 +69,8 @@ module _ (first second : Place) (b : Broken) where
       (subst (λ (t : Rule). rule_cmp t w.rule ≡ Less) (sym x.rule_is) (subst (λ (t : Rule). rule_cmp r t ≡ Less) (sym y.rule_is) h))
 
   -- The rules up to a later one.
-  up_to : (xs : List Violation) (r s : Rule) → rule_cmp r s ≡ Less → ((v w : Violation) → Contains xs v → Contains (by s) w → Precedes v w) → (v w : Violation) → Contains (xs ++ by r) v → Contains (by s) w → Precedes v w
+  up_to : (xs : List Violation) (r s : Rule) → rule_cmp r s ≡ Less → ((v w : Violation) → Contains xs v → Contains (by s) w → Precedes v w)
+      → (v w : Violation) → Contains (xs ++ by r) v → Contains (by s) w → Precedes v w
   up_to xs r s h before v w c d = elim (Contains-append_cases xs (by r) v c) [ inl k ↦ before v w k d | inr k ↦ earlier r s h v w k d ]
 
   rises : Rises (violations_of first second b)
@@ -84,10 +91,12 @@ module _ (first second : Place) (b : Broken) where
   before_war : (v : Violation) → Contains (by Raw ++ by Waw) v → Contains ((by Raw ++ by Waw) ++ by War63) v
   before_war v c = Contains-append_left (by Raw ++ by Waw) (by War63) v c
 
-  before_alloc : (v : Violation) → Contains ((by Raw ++ by Waw) ++ by War63) v → Contains (((by Raw ++ by Waw) ++ by War63) ++ by AllocFirst) v
+  before_alloc : (v : Violation) → Contains ((by Raw ++ by Waw) ++ by War63) v
+      → Contains (((by Raw ++ by Waw) ++ by War63) ++ by AllocFirst) v
   before_alloc v c = Contains-append_left ((by Raw ++ by Waw) ++ by War63) (by AllocFirst) v c
 
-  before_clear : (v : Violation) → Contains (((by Raw ++ by Waw) ++ by War63) ++ by AllocFirst) v → Contains (violations_of first second b) v
+  before_clear : (v : Violation) → Contains (((by Raw ++ by Waw) ++ by War63) ++ by AllocFirst) v
+      → Contains (violations_of first second b) v
   unfolding violations_of
   before_clear v c = Contains-append_left (((by Raw ++ by Waw) ++ by War63) ++ by AllocFirst) (by ClearLast) v c
 

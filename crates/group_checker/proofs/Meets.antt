@@ -28,7 +28,8 @@ pub record GoOn (g : Graph) (j : Place) (IsOld IsNew : Walk → Type 0) : Type 0
   pub back : (v : Walk) → IsNew v → (w : Walk) × IsOld w × (facts_in g v ≡ pairs_past_in g j Falls (facts_in g w))
 
 -- Some walk lacks the pair past the slot too.
-lacks_past : (g : Graph) (o : Option Insn) (IsOld : Walk → Type 0) (f : Pairs) (x y : ℕ) → IsMeetOf g IsOld f → pairs_past_insn o Falls f x y ≡ false → (w : Walk) × IsOld w × (pairs_past_insn o Falls (facts_in g w) x y ≡ false)
+lacks_past : (g : Graph) (o : Option Insn) (IsOld : Walk → Type 0) (f : Pairs) (x y : ℕ) → IsMeetOf g IsOld f
+    → pairs_past_insn o Falls f x y ≡ false → (w : Walk) × IsOld w × (pairs_past_insn o Falls (facts_in g w) x y ≡ false)
 lacks_past g None IsOld f x y meet h = meet.exact x y h
 lacks_past g (Some insn) IsOld f x y meet h = by_why (why_missing f insn Falls x y h)
   where
@@ -37,12 +38,14 @@ lacks_past g (Some insn) IsOld f x y meet h = by_why (why_missing f insn Falls x
     by_why (since a b n more) = let (w, is, m) = meet.exact a b n in (w, is, more (facts_in g w) m)
 
 -- What is known on all of the old walks, past the slot, is what is known on all of the new ones.
-pub meet_past : (g : Graph) (j : Place) (IsOld IsNew : Walk → Type 0) (f : Pairs) → GoOn g j IsOld IsNew → IsMeetOf g IsOld f → IsMeetOf g IsNew (pairs_past_in g j Falls f)
+pub meet_past : (g : Graph) (j : Place) (IsOld IsNew : Walk → Type 0) (f : Pairs) → GoOn g j IsOld IsNew → IsMeetOf g IsOld f
+    → IsMeetOf g IsNew (pairs_past_in g j Falls f)
 meet_past g j IsOld IsNew f go meet = record {
   reached = let (w, is) = meet.reached in let (v, new, e) = go.on w is in (v, new);
   sound = λ v new. let (w, is, e) = go.back v new in
       subst (IsWithin (pairs_past_in g j Falls f)) (sym e) (past_within g j f (facts_in g w) (meet.sound w is));
-  exact = λ x y h. let (w, is, m) = lacks_past g (insn_in g j) IsOld f x y meet (ap (λ (q : Pairs). q x y) (sym (past_is g j Falls f)) ∙ h) in
+  exact =
+      λ x y h. let (w, is, m) = lacks_past g (insn_in g j) IsOld f x y meet (ap (λ (q : Pairs). q x y) (sym (past_is g j Falls f)) ∙ h) in
       let (v, new, e) = go.on w is in (v, new, ap (λ (q : Pairs). q x y) (e ∙ past_is g j Falls (facts_in g w)) ∙ m);
 }
 

@@ -96,8 +96,11 @@ pub precedes_by_rule : (v w : Violation) → v.second ≡ w.second → v.first �
 precedes_by_rule v w e f h = rw (e, f, tied_itself places.total-law w.second, tied_itself places.total-law w.first, h) refl
 
 -- Of two violations of one rule by the same slots, the one on the earlier resource comes first.
-pub compared_by_resource : (second first : Place) (rule : Rule) (q r : Resource) → compare (record { second = second; first = first; rule = rule; resource = q }) (record { second = second; first = first; rule = rule; resource = r }) ≡ resource_cmp q r
-compared_by_resource second first rule q r = rw (tied_itself places.total-law second, tied_itself places.total-law first, same_rule rule) refl
+pub compared_by_resource : (second first : Place) (rule : Rule) (q r : Resource)
+    → compare (record { second = second; first = first; rule = rule; resource = q })
+    (record { second = second; first = first; rule = rule; resource = r }) ≡ resource_cmp q r
+compared_by_resource second first rule q r =
+    rw (tied_itself places.total-law second, tied_itself places.total-law first, same_rule rule) refl
 
 -- A list with no violation rises.
 pub rises_none : Rises []
@@ -105,16 +108,19 @@ unfolding IsStrictlySortedBy
 rises_none = tt
 
 -- Rising lists of which the first is before the second rise together.
-pub rises_append : (xs ys : List Violation) → Rises xs → Rises ys → ((x y : Violation) → Contains xs x → Contains ys y → Precedes x y) → Rises (xs ++ ys)
+pub rises_append : (xs ys : List Violation) → Rises xs → Rises ys → ((x y : Violation) → Contains xs x → Contains ys y → Precedes x y)
+    → Rises (xs ++ ys)
 rises_append xs ys a b h = sorted_append compare xs ys a b h
 
 is_in : (s : BTreeSet Violation) (v : Violation) → IsTrue (contains compare s v) ↔ Contains s.keys v
 is_in s v = btree_set_contains_iff total exact s v
 
 -- Two rising lists of the same violations are one.
-pub one_rising_list : (xs ys : List Violation) → Rises xs → Rises ys → ((v : Violation) → Contains xs v → Contains ys v) → ((v : Violation) → Contains ys v → Contains xs v) → xs ≡ ys
+pub one_rising_list : (xs ys : List Violation) → Rises xs → Rises ys → ((v : Violation) → Contains xs v → Contains ys v)
+    → ((v : Violation) → Contains ys v → Contains xs v) → xs ≡ ys
 one_rising_list xs ys a b f g =
-    btree_set_from_contains total s t a b (λ v. same (contains compare s v) (contains compare t v) (λ h. (is_in t v).1 (f v ((is_in s v).0 h))) (λ h. (is_in s v).1 (g v ((is_in t v).0 h)))) exact
+    btree_set_from_contains total s t a b (λ v. same (contains compare s v) (contains compare t v)
+    (λ h. (is_in t v).1 (f v ((is_in s v).0 h))) (λ h. (is_in s v).1 (g v ((is_in t v).0 h)))) exact
   where
     s : BTreeSet Violation
     s = record { keys = xs }

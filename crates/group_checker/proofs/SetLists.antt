@@ -29,18 +29,23 @@ in_each P [] x h c = absurd (not_in_none x c)
 in_each P (y ∷ ys) x h c = elim (cases_in y x ys c) [ inl e ↦ subst P e h.0 | inr d ↦ in_each P ys x h.1 d ]
 
 -- Sorted lists of which the first is before the second are sorted together.
-pub sorted_append : {X : Type 0} (cmp : X → X → Ordering) (xs ys : List X) → IsStrictlySortedBy cmp xs → IsStrictlySortedBy cmp ys → ((x y : X) → Contains xs x → Contains ys y → cmp x y ≡ Less) → IsStrictlySortedBy cmp (xs ++ ys)
+pub sorted_append : {X : Type 0} (cmp : X → X → Ordering) (xs ys : List X) → IsStrictlySortedBy cmp xs → IsStrictlySortedBy cmp ys
+    → ((x y : X) → Contains xs x → Contains ys y → cmp x y ≡ Less) → IsStrictlySortedBy cmp (xs ++ ys)
 unfolding IsStrictlySortedBy
 sorted_append cmp [] ys a b h = b
-sorted_append cmp (x ∷ xs) ys a b h =
-    (each_append (λ y. cmp x y ≡ Less) xs ys a.0 (each_of (λ y. cmp x y ≡ Less) ys (λ y c. h x y (head_in x xs) c)), sorted_append cmp xs ys a.1 b (λ z y c d. h z y (in_tail x z xs c) d))
+sorted_append cmp (x ∷ xs) ys a b h = (
+  each_append (λ y. cmp x y ≡ Less) xs ys a.0 (each_of (λ y. cmp x y ≡ Less) ys (λ y c. h x y (head_in x xs) c)),
+  sorted_append cmp xs ys a.1 b (λ z y c d. h z y (in_tail x z xs c) d),
+)
 
-each_mapped : {X Y : Type 0} (g : X → Y) (P : X → Type 0) (Q : Y → Type 0) → ((x : X) → P x → Q (g x)) → (xs : List X) → Each P xs → Each Q (map g xs)
+each_mapped : {X Y : Type 0} (g : X → Y) (P : X → Type 0) (Q : Y → Type 0) → ((x : X) → P x → Q (g x)) → (xs : List X) → Each P xs
+    → Each Q (map g xs)
 each_mapped g P Q f [] h = tt
 each_mapped g P Q f (x ∷ xs) h = (f x h.0, each_mapped g P Q f xs h.1)
 
 -- The image of a sorted list in the same order.
-pub sorted_map : {X Y : Type 0} (g : X → Y) (cmp : X → X → Ordering) (order : Y → Y → Ordering) → ((x y : X) → order (g x) (g y) ≡ cmp x y) → (xs : List X) → IsStrictlySortedBy cmp xs → IsStrictlySortedBy order (map g xs)
+pub sorted_map : {X Y : Type 0} (g : X → Y) (cmp : X → X → Ordering) (order : Y → Y → Ordering) → ((x y : X) → order (g x) (g y) ≡ cmp x y)
+    → (xs : List X) → IsStrictlySortedBy cmp xs → IsStrictlySortedBy order (map g xs)
 unfolding IsStrictlySortedBy
 sorted_map g cmp order same [] h = tt
 sorted_map g cmp order same (x ∷ xs) h =
@@ -62,7 +67,8 @@ from_filter : {X : Type 0} (p : X → Bool) (xs : List X) (x : X) → Contains (
 from_filter p [] x c = absurd (not_in_none x c)
 from_filter {X} p (y ∷ ys) x c = of (p y) refl c (from_filter p ys x)
   where
-    of : (b : Bool) → p y ≡ b → Contains (cond b (y ∷ filter p ys) (filter p ys)) x → (Contains (filter p ys) x → Contains ys x × (p x ≡ true)) → Contains (y ∷ ys) x × (p x ≡ true)
+    of : (b : Bool) → p y ≡ b → Contains (cond b (y ∷ filter p ys) (filter p ys)) x
+        → (Contains (filter p ys) x → Contains ys x × (p x ≡ true)) → Contains (y ∷ ys) x × (p x ≡ true)
     of true t k rest = elim (cases_in y x (filter p ys) k) [
       | inl e ↦ (in_head y x ys e, sym (ap p e) ∙ t)
       | inr d ↦ (let h = rest d in (in_tail y x ys h.0, h.1))
@@ -89,7 +95,8 @@ from_numbered sort (suc left) n q c = elim (cases_in (sort n) q (numbered sort l
 less : (n m : ℕ) → n < m → nat_cmp n m ≡ Less
 less n m l = grind (arith, nat_tests)
 
-sorted_numbered : (sort : ℕ → Resource) → ((m n : ℕ) → resource_cmp (sort m) (sort n) ≡ nat_cmp m n) → (left n : ℕ) → IsStrictlySortedBy resource_cmp (numbered sort left n)
+sorted_numbered : (sort : ℕ → Resource) → ((m n : ℕ) → resource_cmp (sort m) (sort n) ≡ nat_cmp m n) → (left n : ℕ)
+    → IsStrictlySortedBy resource_cmp (numbered sort left n)
 unfolding numbered IsStrictlySortedBy
 sorted_numbered sort same zero n = tt
 sorted_numbered sort same (suc left) n = (
@@ -104,17 +111,20 @@ unfolding IsStrictlySortedBy
 sorted_others = ((refl, (refl, (refl, (refl, tt)))), ((refl, (refl, (refl, tt))), ((refl, (refl, tt)), ((refl, tt), (tt, tt)))))
 
 -- Resources of two sorts.
-apart : (p : Resource → Bool) (sort next : ℕ → Resource) (a b : ℕ) → ((m n : ℕ) → resource_cmp (sort m) (next n) ≡ Less) → (x y : Resource) → Contains (filter p (numbered sort a 0)) x → Contains (filter p (numbered next b 0)) y → resource_cmp x y ≡ Less
+apart : (p : Resource → Bool) (sort next : ℕ → Resource) (a b : ℕ) → ((m n : ℕ) → resource_cmp (sort m) (next n) ≡ Less) → (x y : Resource)
+    → Contains (filter p (numbered sort a 0)) x → Contains (filter p (numbered next b 0)) y → resource_cmp x y ≡ Less
 apart p sort next a b h x y c d =
     let (m, _, e) = from_numbered sort a 0 x (from_filter p (numbered sort a 0) x c).0 in
     let (n, _, f) = from_numbered next b 0 y (from_filter p (numbered next b 0) y d).0 in
     subst (λ (q : Resource). resource_cmp q y ≡ Less) e (subst (λ (r : Resource). resource_cmp (sort m) r ≡ Less) f (h m n))
 
 -- Resources that have no number come last.
-last : (p : Resource → Bool) (sort : ℕ → Resource) (a : ℕ) → ((m : ℕ) → Each (λ q. resource_cmp (sort m) q ≡ Less) others) → (x y : Resource) → Contains (filter p (numbered sort a 0)) x → Contains (filter p others) y → resource_cmp x y ≡ Less
+last : (p : Resource → Bool) (sort : ℕ → Resource) (a : ℕ) → ((m : ℕ) → Each (λ q. resource_cmp (sort m) q ≡ Less) others)
+    → (x y : Resource) → Contains (filter p (numbered sort a 0)) x → Contains (filter p others) y → resource_cmp x y ≡ Less
 last p sort a h x y c d =
     let (m, _, e) = from_numbered sort a 0 x (from_filter p (numbered sort a 0) x c).0 in
-    subst (λ (q : Resource). resource_cmp q y ≡ Less) e (in_each (λ q. resource_cmp (sort m) q ≡ Less) others y (h m) (from_filter p others y d).0)
+    subst (λ (q : Resource). resource_cmp q y ≡ Less) e (in_each (λ q. resource_cmp (sort m) q ≡ Less) others y (h m)
+    (from_filter p others y d).0)
 
 -- The list of the resources of a set rises.
 pub resources_rise : (s : ResourceSet) → IsStrictlySortedBy resource_cmp (resources_in s)
@@ -125,7 +135,8 @@ resources_rise s =
     let r = filter p (numbered Pr 64 0) in
     let b = filter p (numbered Br 8 0) in
     let o = filter p others in
-    let sorted : (sort : ℕ → Resource) → ((m n : ℕ) → resource_cmp (sort m) (sort n) ≡ nat_cmp m n) → (left : ℕ) → IsStrictlySortedBy resource_cmp (filter p (numbered sort left 0))
+    let sorted : (sort : ℕ → Resource) → ((m n : ℕ) → resource_cmp (sort m) (sort n) ≡ nat_cmp m n) → (left : ℕ)
+    → IsStrictlySortedBy resource_cmp (filter p (numbered sort left 0))
     = λ sort same left. IsStrictlySortedBy-filter resource_cmp p (numbered sort left 0) (sorted_numbered sort same left 0) in
     sorted_append resource_cmp ((g ++ r) ++ b) o
     (sorted_append resource_cmp (g ++ r) b
@@ -151,7 +162,9 @@ module _ (s : ResourceSet) where
 
   in_last : (q : Resource) → Contains others q → has_resource s q ≡ true → Contains (resources_in s) q
   unfolding resources_in
-  in_last q c h = Contains-append_right ((of (numbered Gr 128 0) ++ of (numbered Pr 64 0)) ++ of (numbered Br 8 0)) (of others) q (in_filter (has_resource s) others q c h)
+  in_last q c h =
+      Contains-append_right ((of (numbered Gr 128 0) ++ of (numbered Pr 64 0)) ++ of (numbered Br 8 0))
+      (of others) q (in_filter (has_resource s) others q c h)
 
   pub in_resources : (q : Resource) → has_resource s q ≡ true → Contains (resources_in s) q
   unfolding resources_in
@@ -159,16 +172,19 @@ module _ (s : ResourceSet) where
       let l : n < 128 = ltb-true n 128 (and_parts (nat_lt n 128) (bit s.registers n) h).0 in
       Contains-append_left ((of (numbered Gr 128 0) ++ of (numbered Pr 64 0)) ++ of (numbered Br 8 0)) (of others) (Gr n)
       (Contains-append_left (of (numbered Gr 128 0) ++ of (numbered Pr 64 0)) (of (numbered Br 8 0)) (Gr n)
-      (Contains-append_left (of (numbered Gr 128 0)) (of (numbered Pr 64 0)) (Gr n) (in_filter (has_resource s) (numbered Gr 128 0) (Gr n) (in_numbered Gr 128 0 n (omega arith) (omega arith)) h)))
+      (Contains-append_left (of (numbered Gr 128 0)) (of (numbered Pr 64 0)) (Gr n)
+      (in_filter (has_resource s) (numbered Gr 128 0) (Gr n) (in_numbered Gr 128 0 n (omega arith) (omega arith)) h)))
   in_resources (Pr n) h =
       let l : n < 64 = ltb-true n 64 (and_parts (nat_lt n 64) (bit s.predicates n) h).0 in
       Contains-append_left ((of (numbered Gr 128 0) ++ of (numbered Pr 64 0)) ++ of (numbered Br 8 0)) (of others) (Pr n)
       (Contains-append_left (of (numbered Gr 128 0) ++ of (numbered Pr 64 0)) (of (numbered Br 8 0)) (Pr n)
-      (Contains-append_right (of (numbered Gr 128 0)) (of (numbered Pr 64 0)) (Pr n) (in_filter (has_resource s) (numbered Pr 64 0) (Pr n) (in_numbered Pr 64 0 n (omega arith) (omega arith)) h)))
+      (Contains-append_right (of (numbered Gr 128 0)) (of (numbered Pr 64 0)) (Pr n)
+      (in_filter (has_resource s) (numbered Pr 64 0) (Pr n) (in_numbered Pr 64 0 n (omega arith) (omega arith)) h)))
   in_resources (Br n) h =
       let l : n < 8 = ltb-true n 8 (and_parts (nat_lt n 8) (bit s.branches n) h).0 in
       Contains-append_left ((of (numbered Gr 128 0) ++ of (numbered Pr 64 0)) ++ of (numbered Br 8 0)) (of others) (Br n)
-      (Contains-append_right (of (numbered Gr 128 0) ++ of (numbered Pr 64 0)) (of (numbered Br 8 0)) (Br n) (in_filter (has_resource s) (numbered Br 8 0) (Br n) (in_numbered Br 8 0 n (omega arith) (omega arith)) h))
+      (Contains-append_right (of (numbered Gr 128 0) ++ of (numbered Pr 64 0)) (of (numbered Br 8 0)) (Br n)
+      (in_filter (has_resource s) (numbered Br 8 0) (Br n) (in_numbered Br 8 0 n (omega arith) (omega arith)) h))
   in_resources Unat h = in_last Unat (0, omega arith, refl) h
   in_resources Pfs h = in_last Pfs (1, omega arith, refl) h
   in_resources Lc h = in_last Lc (2, omega arith, refl) h

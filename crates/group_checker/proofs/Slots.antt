@@ -90,7 +90,8 @@ module _ (p : Program) (j : Place) (s : Slot) (at : slot_at p.bundles j ≡ Some
   slot_next = let i = slot_is p.bundles j s at in ap (λ (q : Slot). q.next) (sym i.is)
 
   -- The slot is under way with its accesses.
-  pub under_way : (es : List EarlierSlot) (seconds : List Access) → seconds ≡ accesses_of s.qp s.action → IsWindow (over_program p) (is_stopped p.bundles) es j → HasWindow (over_program p) (is_stopped p.bundles) es j s seconds
+  pub under_way : (es : List EarlierSlot) (seconds : List Access) → seconds ≡ accesses_of s.qp s.action
+      → IsWindow (over_program p) (is_stopped p.bundles) es j → HasWindow (over_program p) (is_stopped p.bundles) es j s seconds
   under_way es seconds is win = record {
     slot = slot_describes;
     accesses = is ∙ sym (slot_accesses (over_program p) (is_stopped p.bundles) j s slot_describes);

@@ -50,7 +50,8 @@ module _ (g : Graph) (has_stop other : Place → Bool) (w : Walk) (same : group_
   breaks_on i ClearLast q b = (b.0, subst (λ (l : List Place). IsLatest l i) same b.1, b.2)
 
 -- The groups of walks to a place, where the two agree before it.
-agree_there : (g : Graph) (has_stop other : Place → Bool) (j : Place) (w : Walk) → AgreeBefore j has_stop other → EndsIn g j w → group_since has_stop w ≡ group_since other w
+agree_there : (g : Graph) (has_stop other : Place → Bool) (j : Place) (w : Walk) → AgreeBefore j has_stop other → EndsIn g j w
+    → group_since has_stop w ≡ group_since other w
 agree_there g has_stop other j w agree there =
     groups_agree g has_stop other w there.walks (subst (λ (k : Place). AgreeBefore k has_stop other) (sym there.ends) agree)
 
@@ -66,13 +67,15 @@ violations_agree g has_stop other v agree x =
     }
 
 -- A walk through a slot is one with the other stops too.
-through_on : (g : Graph) (has_stop other : Place → Bool) (i j : Place) (w : Walk) → AgreeBefore j has_stop other → IsThrough g has_stop i j w → IsThrough g other i j w
+through_on : (g : Graph) (has_stop other : Place → Bool) (i j : Place) (w : Walk) → AgreeBefore j has_stop other
+    → IsThrough g has_stop i j w → IsThrough g other i j w
 through_on g has_stop other i j w agree t = record {
   there = t.there;
   inside = subst (λ (l : List Place). Contains l i) (agree_there g has_stop other j w agree t.there) t.inside;
 }
 
-carried_on : (g : Graph) (has_stop other : Place → Bool) (j : Place) (e : EarlierSlot) → AgreeBefore j has_stop other → IsCarried g has_stop j e → IsCarried g other j e
+carried_on : (g : Graph) (has_stop other : Place → Bool) (j : Place) (e : EarlierSlot) → AgreeBefore j has_stop other
+    → IsCarried g has_stop j e → IsCarried g other j e
 carried_on g has_stop other j e agree is = record {
   clears = is.clears;
   accesses = is.accesses;
@@ -92,7 +95,8 @@ windows_agree g has_stop other es j agree win = record {
   rises = win.rises;
   passes = λ m n a b at there less w t.
       let was = through_on g other has_stop a.place j w (λ k before. sym (agree k before)) t in
-      subst (λ (l : List Place). Contains l b.place) (agree_there g has_stop other j w agree t.there) (win.passes m n a b at there less w was);
+      subst (λ (l : List Place). Contains l b.place) (agree_there g has_stop other j w agree t.there)
+      (win.passes m n a b at there less w was);
   written = win.written;
   last = win.last;
   all = λ w there i c. win.all w there i (subst (λ (l : List Place). Contains l i) (sym (agree_there g has_stop other j w agree there)) c);

@@ -56,7 +56,8 @@ abbrev pub IsPairViolated : Graph → (Place → Bool) → List EarlierSlot → 
 IsPairViolated g has_stop window n second = (v : Violation) × IsNthPair window n second v × ViolatesIn g has_stop v
 
 -- The first violation of the two.
-pub record IsFirstOfPair (g : Graph) (has_stop : Place → Bool) (window : List EarlierSlot) (n : ℕ) (second : Place) (v : Violation) : Type 0 where
+pub record IsFirstOfPair (g : Graph) (has_stop : Place → Bool) (window : List EarlierSlot) (n : ℕ) (second : Place)
+    (v : Violation) : Type 0 where
   pub pair : IsNthPair window n second v
   pub violates : ViolatesIn g has_stop v
   pub first : (w : Violation) → IsNthPair window n second w → ViolatesIn g has_stop w → (v ≡ w) ⊎ Precedes v w

@@ -26,7 +26,8 @@ abbrev pub rule_cmp : Rule → Rule → Ordering
 rule_cmp = (rules.ghosts).cmp
 
 abbrev pub RulesInOrder : Type 0
-RulesInOrder = (rule_cmp Raw Waw ≡ Less) × (rule_cmp Waw War63 ≡ Less) × (rule_cmp War63 AllocFirst ≡ Less) × (rule_cmp AllocFirst ClearLast ≡ Less)
+RulesInOrder =
+    (rule_cmp Raw Waw ≡ Less) × (rule_cmp Waw War63 ≡ Less) × (rule_cmp War63 AllocFirst ≡ Less) × (rule_cmp AllocFirst ClearLast ≡ Less)
 
 -- The order that resources derive: from the general registers to the frame marker, those of one sort by their numbers.
 abbrev pub resource_cmp : Resource → Resource → Ordering

@@ -84,7 +84,8 @@ pub record Describes (g : Graph) (has_stop : Place → Bool) (place : Place) (sl
   pub stop : slot.stop ≡ has_stop place
 
 -- At j stands this slot, with these accesses, and this is its window.
-pub record HasWindow (g : Graph) (has_stop : Place → Bool) (es : List EarlierSlot) (j : Place) (s : Slot) (seconds : List Access) : Type 0 where
+pub record HasWindow (g : Graph) (has_stop : Place → Bool) (es : List EarlierSlot) (j : Place) (s : Slot)
+    (seconds : List Access) : Type 0 where
   pub slot : Describes g has_stop j s
   pub accesses : seconds ≡ accesses_at g j
   pub window : IsWindow g has_stop es j

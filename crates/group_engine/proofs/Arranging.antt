@@ -15,7 +15,9 @@ length_others x (y ∷ ys) zero = refl
 length_others x (y ∷ ys) (suc k) = ap suc (length_others y ys k)
 
 -- The next item, and the order of the others.
-next : {X : Type 0} (x : X) (xs : List X) (number : ℕ) → arranged (order number (suc (length xs))) (x ∷ xs) ≡ item_at x xs (number % suc (length xs)) ∷ arranged (order (number / suc (length xs)) (length xs)) (others x xs (number % suc (length xs)))
+next : {X : Type 0} (x : X) (xs : List X) (number : ℕ) → arranged (order number (suc (length xs))) (x ∷ xs)
+    ≡ item_at x xs (number % suc (length xs)) ∷ arranged (order (number / suc (length xs)) (length xs))
+    (others x xs (number % suc (length xs)))
 unfolding order
 next x xs number =
     let within : number % suc (length xs) % suc (length xs) ≡ number % suc (length xs) = mod-eq_of_lt (omega arith) in
@@ -40,7 +42,8 @@ unmoved (x ∷ xs) n e =
     rw (e, next x xs 0, none, same, first_item x xs, but_first x xs) (ap (λ l. x ∷ l) (unmoved xs (length xs) refl))
 
 -- Where nothing is left of the number, all items stand in their order.
-pub arranged_all : {X : Type 0} (i : ℕ) (xs : List X) (number count : ℕ) → length xs ≡ count → number ≡ 0 → take i xs ++ arranged (order number (count - i)) (drop i xs) ≡ xs
+pub arranged_all : {X : Type 0} (i : ℕ) (xs : List X) (number count : ℕ) → length xs ≡ count → number ≡ 0
+    → take i xs ++ arranged (order number (count - i)) (drop i xs) ≡ xs
 arranged_all i xs number count h none =
     rw (none, unmoved (drop i xs) (count - i) (omega (arith, length-drop i xs))) (take-append-drop i xs)
 
@@ -52,7 +55,8 @@ alone x (y ∷ ys) zero h = refl
 alone x (y ∷ ys) (suc k) h = alone y ys k (omega (arith, h))
 
 -- The items before the one at k, and those after it.
-around : {X : Type 0} (x : X) (xs : List X) (k : ℕ) → k ≤ length xs → take k (take (suc k) (x ∷ xs)) ++ drop (suc k) (x ∷ xs) ≡ others x xs k
+around : {X : Type 0} (x : X) (xs : List X) (k : ℕ) → k ≤ length xs
+    → take k (take (suc k) (x ∷ xs)) ++ drop (suc k) (x ∷ xs) ≡ others x xs k
 around x [] zero h = refl
 around x [] (suc k) h = absurd (omega (arith, h))
 around x (y ∷ ys) zero h = refl
@@ -63,13 +67,16 @@ abbrev rotated : {X : Type 0} → List X → List X
 rotated xs = drop (length xs - 1) xs ++ take (length xs - 1) xs
 
 -- The item at k is moved to the front.
-moved : {X : Type 0} (x : X) (xs : List X) (k : ℕ) → k ≤ length xs → rotated (take (suc k) (x ∷ xs)) ++ drop (suc k) (x ∷ xs) ≡ item_at x xs k ∷ others x xs k
+moved : {X : Type 0} (x : X) (xs : List X) (k : ℕ) → k ≤ length xs
+    → rotated (take (suc k) (x ∷ xs)) ++ drop (suc k) (x ∷ xs) ≡ item_at x xs k ∷ others x xs k
 moved x xs k h =
     let count : length (take (suc k) (x ∷ xs)) - 1 ≡ k = omega (arith, length-take-le k xs h) in
     rw (count, alone x xs k h) (ap (λ l. item_at x xs k ∷ l) (around x xs k h))
 
 -- One item more stands where it comes in the order.
-one_more : {X : Type 0} (i : ℕ) (xs ys : List X) (number left size : ℕ) → length xs ≡ i + suc left → size ≡ suc (number % suc left) → ys ≡ rotated (take size (drop i xs)) → take i xs ++ arranged (order number (suc left)) (drop i xs) ≡ take (suc i) (put_mid i size xs ys) ++ arranged (order (number / suc left) left) (drop (suc i) (put_mid i size xs ys))
+one_more : {X : Type 0} (i : ℕ) (xs ys : List X) (number left size : ℕ) → length xs ≡ i + suc left → size ≡ suc (number % suc left)
+    → ys ≡ rotated (take size (drop i xs)) → take i xs ++ arranged (order number (suc left)) (drop i xs) ≡ take (suc i)
+    (put_mid i size xs ys) ++ arranged (order (number / suc left) left) (drop (suc i) (put_mid i size xs ys))
 one_more zero [] ys number left size h k e = absurd (omega arith)
 one_more zero (x ∷ xs) ys number left size h k e =
     let n : left ≡ length xs = omega arith in
@@ -78,7 +85,11 @@ one_more (suc i) [] ys number left size h k e = absurd (omega arith)
 one_more (suc i) (x ∷ xs) ys number left size h k e = ap (λ l. x ∷ l) (one_more i xs ys number left size (omega arith) k e)
 
 -- The items up to one more stand, and the order of the others with what is left of the number makes the whole.
-pub arranged_more : {X : Type 0} (i : ℕ) (xs ys whole : List X) (number size rest count : ℕ) → length xs ≡ count → i < count → rest ≡ count - i → size ≡ suc (number % rest) → ys ≡ rotated (take size (drop i xs)) → take i xs ++ arranged (order number (count - i)) (drop i xs) ≡ whole → take (i + 1) (put_mid i size xs ys) ++ arranged (order (number / rest) (count - (i + 1))) (drop (i + 1) (put_mid i size xs ys)) ≡ whole
+pub arranged_more : {X : Type 0} (i : ℕ) (xs ys whole : List X) (number size rest count : ℕ) → length xs ≡ count → i < count
+    → rest ≡ count - i → size ≡ suc (number % rest) → ys ≡ rotated (take size (drop i xs))
+    → take i xs ++ arranged (order number (count - i)) (drop i xs) ≡ whole
+    → take (i + 1) (put_mid i size xs ys) ++ arranged (order (number / rest) (count - (i + 1))) (drop (i + 1) (put_mid i size xs ys))
+    ≡ whole
 arranged_more i xs ys whole number size rest count h l r k e so_far =
     let left = count - suc i in
     let is : rest ≡ suc left = omega arith in

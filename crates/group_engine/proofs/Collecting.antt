@@ -33,7 +33,8 @@ unfolding predicate_index
 place_some f p h = grind (arith, nat_tests)
 
 -- A predicate is written at its place, but p0 is not.
-pub predicate_written : (f : FrameShape) (p : ℕ) (b : Bool) → p ≢ 0 → set_predicate (predicate_spot f p) b [] ≡ SetPredicate (predicate_index f p) b ∷ []
+pub predicate_written : (f : FrameShape) (p : ℕ) (b : Bool) → p ≢ 0
+    → set_predicate (predicate_spot f p) b [] ≡ SetPredicate (predicate_index f p) b ∷ []
 unfolding predicate_spot
 predicate_written f zero b h = absurd (h refl)
 predicate_written f (suc p) b h = refl
@@ -47,11 +48,15 @@ left_from : (n : ℕ) → n < 64 → 64 - n ≡ suc (64 - (n + 1))
 left_from n h = omega arith
 
 -- One predicate more, which the mask has, is kept with its write.
-pub place_kept : (n mask x : ℕ) (k : Kept) → n < 64 → is_masked mask n ≡ true → keeping (masked_writes (64 - n) n mask x) k ≡ keeping (masked_writes (64 - (n + 1)) (n + 1) mask x) (keeping (SetPredicate n (bit x n) ∷ []) k)
-place_kept n mask x k h e = rw (left_from n h, e, kept_on (SetPredicate n (bit x n) ∷ []) (masked_writes (64 - (n + 1)) (n + 1) mask x) k) (grind arith)
+pub place_kept : (n mask x : ℕ) (k : Kept) → n < 64 → is_masked mask n ≡ true
+    → keeping (masked_writes (64 - n) n mask x) k ≡ keeping (masked_writes (64 - (n + 1)) (n + 1) mask x)
+    (keeping (SetPredicate n (bit x n) ∷ []) k)
+place_kept n mask x k h e =
+    rw (left_from n h, e, kept_on (SetPredicate n (bit x n) ∷ []) (masked_writes (64 - (n + 1)) (n + 1) mask x) k) (grind arith)
 
 -- One predicate more, which the mask doesn't have, is kept as it was.
-pub place_left : (n mask x : ℕ) (k : Kept) → n < 64 → is_masked mask n ≡ false → keeping (masked_writes (64 - n) n mask x) k ≡ keeping (masked_writes (64 - (n + 1)) (n + 1) mask x) k
+pub place_left : (n mask x : ℕ) (k : Kept) → n < 64 → is_masked mask n ≡ false
+    → keeping (masked_writes (64 - n) n mask x) k ≡ keeping (masked_writes (64 - (n + 1)) (n + 1) mask x) k
 place_left n mask x k h e = rw (left_from n h, e) (grind arith)
 
 -- What a slot sees of general registers is what stands there.

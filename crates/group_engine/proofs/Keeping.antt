@@ -41,9 +41,11 @@ steered [] r = refl
 steered (w ∷ ws) r = rw (steered_by w r) (steered ws (put w r))
 
 -- What the writes leave of the registers that steer branches is what they leave of all registers.
-pub latest_kept : (ws : List Write) (k : Kept) (r : Registers) → k.latest ≡ branch_inputs_of r → (keeping ws k).latest ≡ branch_inputs_of (apply ws r)
+pub latest_kept : (ws : List Write) (k : Kept) (r : Registers) → k.latest ≡ branch_inputs_of r
+    → (keeping ws k).latest ≡ branch_inputs_of (apply ws r)
 latest_kept ws k r e = rw e (steered ws r)
 
 -- Writes that are made in program order, UNAT being set first, leave of them what is kept.
-pub left_in_order : (ws : List Write) (r : Registers) (unat number : ℕ) → number ≡ 0 → branch_inputs_of (apply ws r) ≡ branch_inputs_of (apply (arranged (order number (length ws)) ws) (record r { unat = unat }))
+pub left_in_order : (ws : List Write) (r : Registers) (unat number : ℕ) → number ≡ 0
+    → branch_inputs_of (apply ws r) ≡ branch_inputs_of (apply (arranged (order number (length ws)) ws) (record r { unat = unat }))
 left_in_order ws r unat number none = rw (none, unmoved ws (length ws) refl, ← steered ws r, ← steered ws (record r { unat = unat })) refl

@@ -27,10 +27,12 @@ abbrev IsNoLimit : Option End → Type 0
 IsNoLimit (Some (Limit place)) = ⊥
 IsNoLimit end = ⊤
 
-slot_no_limit : (p : Program) (first : Bool) (g : Gathered) (o : Outcome) (way : Next) (rest : GatheredGroup) → IsNoLimit rest.end → IsNoLimit (gathered_by p first g o way rest).end
+slot_no_limit : (p : Program) (first : Bool) (g : Gathered) (o : Outcome) (way : Next) (rest : GatheredGroup) → IsNoLimit rest.end
+    → IsNoLimit (gathered_by p first g o way rest).end
 slot_no_limit p first g o Falls rest h = of (is_stopped p.bundles g.place)
   where
-    of : (b : Bool) → IsNoLimit (if b then ends_with (gathers first g o (place_after g.place (next_of p.bundles g.place))) g.place how.Falls None else one_more rest).end
+    of : (b : Bool) → IsNoLimit (if b then ends_with (gathers first g o (place_after g.place (next_of p.bundles g.place))) g.place how.Falls
+        None else one_more rest).end
     of true = tt
     of false = h
 slot_no_limit p first g o (Goes bundle) rest h = tt
@@ -63,7 +65,8 @@ further_ended zero number e end is = refl
 further_ended (suc n) number e end is = rw is refl
 
 -- Where there is none, one group is run, and the rest.
-pub further_on : (left number : ℕ) (e : Engine) → e.end ≡ None → 0 < left → groups_further left number e ≡ groups_further (left - 1) number (after_group (numbered_group number e.program e.state) e)
+pub further_on : (left number : ℕ) (e : Engine) → e.end ≡ None → 0 < left
+    → groups_further left number e ≡ groups_further (left - 1) number (after_group (numbered_group number e.program e.state) e)
 further_on zero number e none some = absurd (omega (arith, some))
 further_on (suc n) number e none some =
     let less : suc n - 1 ≡ n = omega arith in
@@ -82,11 +85,20 @@ ends_at : (e : Engine) (end : End) → e.end ≡ Some end → end_of e ≡ end
 ends_at e end is = rw is refl
 
 -- A group, and the rest of the run.
-group_step : (n number : ℕ) (e : Engine) (g : Group) (event : GroupEvent) (rest : Run) → (g.end ≡ None → HasRest (after_group g e) (groups_further n number (after_group g e)) rest) → (end : Option End) → g.end ≡ end → IsNoLimit end
+group_step : (n number : ℕ) (e : Engine) (g : Group) (event : GroupEvent) (rest : Run)
+    → (g.end ≡ None → HasRest (after_group g e) (groups_further n number (after_group g e)) rest) → (end : Option End) → g.end ≡ end
+    → IsNoLimit end
     → HasRest e (groups_further n number (after_group g e)) (run_by g event end rest)
 group_step n number e g event rest goes (Some end) is limit =
     subst (λ (x : Engine). HasRest e x (run_by g event (Some end) rest)) (sym (further_ended n number (after_group g e) end is))
-    (record { program = refl; state = refl; end = is ∙ sym (lasts end limit); ends = ends_at (after_group g e) end is; groups = refl; range = refl })
+    (record {
+      program = refl;
+      state = refl;
+      end = is ∙ sym (lasts end limit);
+      ends = ends_at (after_group g e) end is;
+      groups = refl;
+      range = refl;
+    })
 group_step n number e g event rest goes None is limit =
     let h = goes is in
     record {
@@ -98,7 +110,8 @@ group_step n number e g event rest goes None is limit =
       range = h.range ∙ range_appended e.range g.frames rest.frames;
     }
 
-rest_is : (n number at : ℕ) (e : Engine) → e.end ≡ None → HasRest e (groups_further n number e) (run_from (λ each s. numbered_group number e.program s) at n e.state)
+rest_is : (n number at : ℕ) (e : Engine) → e.end ≡ None → HasRest e (groups_further n number e)
+    (run_from (λ each s. numbered_group number e.program s) at n e.state)
 rest_is zero number at e none = record { program = refl; state = refl; end = none; ends = rw none refl; groups = omega arith; range = refl }
 rest_is (suc n) number at e none =
     let g = numbered_group number e.program e.state in
@@ -112,11 +125,14 @@ after_is_run : (e after : Engine) (run : Run) → HasRest e after run → after 
 after_is_run e after run h = rw (← h.program, ← h.state, ← h.end, ← h.groups, ← h.range) refl
 
 -- Going n groups further leaves what the run of n groups leaves.
-pub further_is_run : (n number : ℕ) (e : Engine) → e.end ≡ None → groups_further n number e ≡ after_run (numbered_run e.program n number e.state) e
-further_is_run n number e none = after_is_run e (groups_further n number e) (numbered_run e.program n number e.state) (rest_is n number 1 e none)
+pub further_is_run : (n number : ℕ) (e : Engine) → e.end ≡ None
+    → groups_further n number e ≡ after_run (numbered_run e.program n number e.state) e
+further_is_run n number e none =
+    after_is_run e (groups_further n number e) (numbered_run e.program n number e.state) (rest_is n number 1 e none)
 
 -- Going n groups further ends as the run of n groups.
-pub further_ends : (n number : ℕ) (e : Engine) → e.end ≡ None → end_of (groups_further n number e) ≡ (numbered_run e.program n number e.state).end
+pub further_ends : (n number : ℕ) (e : Engine) → e.end ≡ None → end_of (groups_further n number e)
+    ≡ (numbered_run e.program n number e.state).end
 further_ends n number e none = let h = rest_is n number 1 e none in h.ends
 
 -- A test that finds no end.

@@ -16,7 +16,8 @@ use Rattle.ia_meaning.proofs.Views.{seen_none}
 use Rattle.group_engine.proofs.Seen.{seen_or}
 
 -- What has a target in a branch register sees the static predicates and that register, and no other action does.
-pub static_seen : (f : Action) (b : ℕ) (base now : List Bool) → target_register f ≡ Some b → seen_in (λ n. nat_le 1 n && nat_lt n 16) 0 base now ≡ seen_in (sees_static f) 0 base now
+pub static_seen : (f : Action) (b : ℕ) (base now : List Bool) → target_register f ≡ Some b
+    → seen_in (λ n. nat_le 1 n && nat_lt n 16) 0 base now ≡ seen_in (sees_static f) 0 base now
 static_seen (JumpIndirect b2) b base now e = refl
 static_seen (Call b1 (Indirect b2)) b base now e = refl
 static_seen (Return b2) b base now e = refl
@@ -31,7 +32,8 @@ sees_no_static f n e = refl
 pub static_unseen : (f : Action) (base now : List Bool) → target_register f ≡ None → base ≡ seen_in (sees_static f) 0 base now
 static_unseen f base now e = sym (seen_none (sees_static f) (λ n. sees_no_static f n e) 0 base now)
 
-pub branch_seen : (f : Action) (b : ℕ) (base now : List ℕ) → target_register f ≡ Some b → seen_in (λ n. n == b) 0 base now ≡ seen_in (sees_branch f) 0 base now
+pub branch_seen : (f : Action) (b : ℕ) (base now : List ℕ) → target_register f ≡ Some b
+    → seen_in (λ n. n == b) 0 base now ≡ seen_in (sees_branch f) 0 base now
 branch_seen (JumpIndirect b2) b base now e = let same : b ≡ b2 = cc in rw same refl
 branch_seen (Call b1 (Indirect b2)) b base now e = let same : b ≡ b2 = cc in rw same refl
 branch_seen (Return b2) b base now e = let same : b ≡ b2 = cc in rw same refl
@@ -58,12 +60,22 @@ sighted f place latest start = record {
 }
 
 -- A branch sees its qualifying predicate.
-guard_seen : (f : Action) (place : ℕ) (base now : List Bool) → is_branch f ≡ true → seen_in (λ n. n == place) 0 base now ≡ seen_in (λ n. is_branch f && (n == place)) 0 base now
+guard_seen : (f : Action) (place : ℕ) (base now : List Bool) → is_branch f ≡ true
+    → seen_in (λ n. n == place) 0 base now ≡ seen_in (λ n. is_branch f && (n == place)) 0 base now
 guard_seen f place base now e = rw e refl
 
 -- What a branch sees of the registers that steer it is what the view has of them.
-pub sight_is : (insn : Insn) (now base : Registers) (f : Action) (qp : ℕ) (latest : BranchInputs) → is_branch f ≡ true → insn_action insn ≡ f → insn.qp ≡ qp → branch_inputs_of now ≡ latest
+pub sight_is : (insn : Insn) (now base : Registers) (f : Action) (qp : ℕ) (latest : BranchInputs) → is_branch f ≡ true
+    → insn_action insn ≡ f → insn.qp ≡ qp → branch_inputs_of now ≡ latest
     → sighted f (predicate_index base.frame qp) latest (branch_inputs_of base) ≡ branch_inputs_of (view insn now base)
 sight_is insn now base f qp latest branch action_is qp_is latest_is =
     let place = predicate_index base.frame insn.qp in
-    rw (← action_is, ← qp_is, ← latest_is, guard_seen (insn_action insn) place (seen_in (sees_static (insn_action insn)) 0 base.predicates now.predicates) now.predicates (ap is_branch action_is ∙ branch), seen_or (λ n. is_branch (insn_action insn) && (n == place)) (sees_static (insn_action insn)) 0 base.predicates now.predicates) refl
+    rw (
+      ← action_is,
+      ← qp_is,
+      ← latest_is,
+      guard_seen (insn_action insn) place
+          (seen_in (sees_static (insn_action insn)) 0 base.predicates now.predicates) now.predicates (ap is_branch action_is ∙ branch),
+      seen_or (λ n. is_branch (insn_action insn) && (n == place)) (sees_static (insn_action insn)) 0 base.predicates now.predicates,
+    )
+    refl

@@ -33,22 +33,27 @@ pub record Does (p : Program) (g : Gathered) (slot : Slot) (e : SlotEffect) (pfs
   pub of : IsSlotOf p.bundles g.place slot
   pub does : IsEffectOf p g of.insn e pfs
 
-pub does_next : (p : Program) (g : Gathered) (slot : Slot) (e : SlotEffect) (pfs : ℕ) → ComesNext p g slot → ((insn : Insn) → insn_at p.bundles g.place ≡ Some insn → IsEffectOf p g insn e pfs) → Does p g slot e pfs
+pub does_next : (p : Program) (g : Gathered) (slot : Slot) (e : SlotEffect) (pfs : ℕ) → ComesNext p g slot
+    → ((insn : Insn) → insn_at p.bundles g.place ≡ Some insn → IsEffectOf p g insn e pfs) → Does p g slot e pfs
 does_next p g slot e pfs next does =
     let i = slot_is p.bundles g.place slot next.at in record { of = i; does = does i.insn i.here }
 
 -- The places to which it goes on are the program's.
-pub falls_inside : (p : Program) (g : Gathered) (slot : Slot) (next : Place) → ComesNext p g slot → slot.next ≡ Some next → IsPlaceOf p.bundles next
+pub falls_inside : (p : Program) (g : Gathered) (slot : Slot) (next : Place) → ComesNext p g slot → slot.next ≡ Some next
+    → IsPlaceOf p.bundles next
 falls_inside p g slot next h to =
     let i = slot_is p.bundles g.place slot h.at in
     let n = next_is p.bundles g.place next (ap (λ (s : Slot). s.next) i.is ∙ to) in
     n.is
 
-pub branches_inside : (p : Program) (g : Gathered) (slot : Slot) (e : SlotEffect) (pfs bundle : ℕ) → Does p g slot e pfs → IsProgram p → IsPlaceOf p.bundles g.place → e.next ≡ Goes bundle → IsPlaceOf p.bundles (first_of bundle)
+pub branches_inside : (p : Program) (g : Gathered) (slot : Slot) (e : SlotEffect) (pfs bundle : ℕ) → Does p g slot e pfs → IsProgram p
+    → IsPlaceOf p.bundles g.place → e.next ≡ Goes bundle → IsPlaceOf p.bundles (first_of bundle)
 branches_inside p g slot e pfs bundle h program is taken =
-    goes_inside p g.place h.of.insn (view h.of.insn (now_of g) g.base) g.memory g.unat bundle program is h.of.here (ap (λ (o : Outcome). o.next) (sym h.does.value) ∙ taken)
+    goes_inside p g.place h.of.insn (view h.of.insn (now_of g) g.base) g.memory g.unat bundle program is h.of.here
+    (ap (λ (o : Outcome). o.next) (sym h.does.value) ∙ taken)
 
-module _ (p : Program) (begins first : Bool) (g next : Gathered) (slot : Slot) (e : SlotEffect) (pfs : ℕ) (h : Does p g slot e pfs) (flag : first ≡ (begins && is_alloc slot.action)) where
+module _ (p : Program) (begins first : Bool) (g next : Gathered) (slot : Slot) (e : SlotEffect) (pfs : ℕ) (h : Does p g slot e pfs)
+    (flag : first ≡ (begins && is_alloc slot.action)) where
   abbrev does : Outcome
   does = outcome_of_effect (record g.base { pfs = pfs }) g.memory e
 
@@ -62,24 +67,30 @@ module _ (p : Program) (begins first : Bool) (g next : Gathered) (slot : Slot) (
   takes_in place took = rw (← same_flag) (gathers_falling first g (record g.base { pfs = pfs }) e place ∙ sym took)
 
   -- A slot that falls where there is no place ends the run with a fault.
-  pub fell_off : e.next ≡ Falls → slot.next ≡ None → (most : ℕ) → HasGathered (rest_of (suc most) p begins g) g (Some (Fault FellOff g.place))
+  pub fell_off : e.next ≡ Falls → slot.next ≡ None → (most : ℕ) → HasGathered (rest_of (suc most) p begins g) g
+      (Some (Fault FellOff g.place))
   fell_off falls none most =
       fell p begins g h.of.insn does h.of.here (sym h.does.value) most falls (ap (λ (s : Slot). s.next) h.of.is ∙ none)
 
   -- A slot that falls through to a stop ends the group.
-  pub ends_group : (place : Place) → Takes place → e.next ≡ Falls → slot.next ≡ Some place → slot.stop ≡ true → (most : ℕ) → HasGathered (rest_of (suc most) p begins g) next None
+  pub ends_group : (place : Place) → Takes place → e.next ≡ Falls → slot.next ≡ Some place → slot.stop ≡ true → (most : ℕ)
+      → HasGathered (rest_of (suc most) p begins g) next None
   ends_group place took falls to stop most =
       subst (λ all. HasGathered (rest_of (suc most) p begins g) all None) (takes_in place took)
-      (stops p begins g h.of.insn does h.of.here (sym h.does.value) most place falls (ap (λ (s : Slot). s.next) h.of.is ∙ to) (ap (λ (s : Slot). s.stop) h.of.is ∙ stop))
+      (stops p begins g h.of.insn does h.of.here (sym h.does.value) most place falls (ap (λ (s : Slot). s.next) h.of.is ∙ to)
+      (ap (λ (s : Slot). s.stop) h.of.is ∙ stop))
 
   -- A slot that falls through without a stop stays within its group.
-  pub stays : (place : Place) → Takes place → e.next ≡ Falls → slot.next ≡ Some place → slot.stop ≡ false → (most : ℕ) → HasRestOf (rest_of (suc most) p begins g) (rest_of most p false next)
+  pub stays : (place : Place) → Takes place → e.next ≡ Falls → slot.next ≡ Some place → slot.stop ≡ false → (most : ℕ)
+      → HasRestOf (rest_of (suc most) p begins g) (rest_of most p false next)
   stays place took falls to stop most =
       subst (λ all. HasRestOf (rest_of (suc most) p begins g) (rest_of most p false all)) (takes_in place took)
-      (goes_on p begins g h.of.insn does h.of.here (sym h.does.value) most place falls (ap (λ (s : Slot). s.next) h.of.is ∙ to) (ap (λ (s : Slot). s.stop) h.of.is ∙ stop))
+      (goes_on p begins g h.of.insn does h.of.here (sym h.does.value) most place falls (ap (λ (s : Slot). s.next) h.of.is ∙ to)
+      (ap (λ (s : Slot). s.stop) h.of.is ∙ stop))
 
   -- A slot that branches ends the group.
-  pub branches : (bundle : ℕ) → Takes (first_of bundle) → e.next ≡ Goes bundle → (most : ℕ) → HasGathered (rest_of (suc most) p begins g) next None
+  pub branches : (bundle : ℕ) → Takes (first_of bundle) → e.next ≡ Goes bundle → (most : ℕ)
+      → HasGathered (rest_of (suc most) p begins g) next None
   branches bundle took taken most =
       subst (λ all. HasGathered (rest_of (suc most) p begins g) all None) (takes_in (first_of bundle) took)
       (goes p begins g h.of.insn does h.of.here (sym h.does.value) most bundle taken)
@@ -88,26 +99,41 @@ module _ (p : Program) (begins first : Bool) (g next : Gathered) (slot : Slot) (
   pub ends_run : (imm : ℕ) → e.next ≡ Breaks imm → (most : ℕ) → HasGathered (rest_of (suc most) p begins g) g (Some (Break imm g.place))
   ends_run imm stop most = breaks_off p begins g h.of.insn does h.of.here (sym h.does.value) most imm stop
 
-  pub has_fault : (kind : FaultKind) → e.next ≡ Faults kind → (most : ℕ) → HasGathered (rest_of (suc most) p begins g) g (Some (Fault kind g.place))
+  pub has_fault : (kind : FaultKind) → e.next ≡ Faults kind → (most : ℕ)
+      → HasGathered (rest_of (suc most) p begins g) g (Some (Fault kind g.place))
   has_fault kind fault most = faulted p begins g h.of.insn does h.of.here (sym h.does.value) most kind fault
 
 -- Where it ends the run, nothing else changes.
-pub run_over : (p : Program) (begins over : Bool) (old new : Gathering) (end : End) → MayGather p begins old → over ≡ true → new ≡ record old { end = Some end } → ((most : ℕ) → HasGathered (rest_of (suc most) p begins (gathered_of old)) (gathered_of old) (Some end)) → IsGathered p begins old new over
+pub run_over : (p : Program) (begins over : Bool) (old new : Gathering) (end : End) → MayGather p begins old → over ≡ true
+    → new ≡ record old { end = Some end } → ((most : ℕ) → HasGathered (rest_of (suc most) p begins (gathered_of old)) (gathered_of old)
+    (Some end)) → IsGathered p begins old new over
 run_over p begins over old new end may is e h =
-    rw (is, e) (record { ends = λ _. h; goes_on = λ go. absurd (cc); running = λ go. absurd (cc); place = may.place; latest = may.latest; few = omega arith })
+    rw (is, e) (record {
+      ends = λ _. h;
+      goes_on = λ go. absurd (cc);
+      running = λ go. absurd (cc);
+      place = may.place;
+      latest = may.latest;
+      few = omega arith;
+    })
 
 -- What a group takes in of it, and goes to a place.
 pub record TakesIn (first : Bool) (old new : Gathering) (e : SlotEffect) (pfs : ℕ) (to : Place) : Type 0 where
-  pub value : gathered_of new ≡ gathers first (gathered_of old) (outcome_making (record old.registers { pfs = pfs }) (memory_of old.in_order) e.change Falls) to
+  pub value : gathered_of new ≡ gathers first (gathered_of old) (outcome_making (record old.registers { pfs = pfs })
+      (memory_of old.in_order) e.change Falls) to
   pub latest : new.kept.latest ≡ branch_inputs_of (now_of (gathered_of new))
   pub place : new.place ≡ to
   pub few : length new.kept.writes ≤ length old.kept.writes + SLOT_WRITE_LIMIT
   pub end : new.end ≡ old.end
 
-pub falls_through : (p : Program) (begins first : Bool) (old new : Gathering) (slot : Slot) (e : SlotEffect) (pfs : ℕ) (place : Place) → MayGather p begins old → ComesNext p (gathered_of old) slot → Does p (gathered_of old) slot e pfs → first ≡ (begins && is_alloc slot.action)
+pub falls_through : (p : Program) (begins first : Bool) (old new : Gathering) (slot : Slot) (e : SlotEffect) (pfs : ℕ) (place : Place)
+    → MayGather p begins old → ComesNext p (gathered_of old) slot → Does p (gathered_of old) slot e pfs
+    → first ≡ (begins && is_alloc slot.action)
     → TakesIn first old new e pfs place → e.next ≡ Falls → slot.next ≡ Some place → IsGathered p begins old new slot.stop
 falls_through p begins first old new slot e pfs place may next does flag took falls to = record {
-  ends = λ stop most. rw (took.end, may.running) (ends_group p begins first (gathered_of old) (gathered_of new) slot e pfs does flag place took.value falls to stop most);
+  ends =
+      λ stop most. rw (took.end, may.running) (ends_group p begins first (gathered_of old)
+      (gathered_of new) slot e pfs does flag place took.value falls to stop most);
   goes_on = λ stop most. stays p begins first (gathered_of old) (gathered_of new) slot e pfs does flag place took.value falls to stop most;
   running = λ _. took.end ∙ may.running;
   place = rw took.place (falls_inside p (gathered_of old) slot place next to);
@@ -115,10 +141,13 @@ falls_through p begins first old new slot e pfs place may next does flag took fa
   few = took.few;
 }
 
-pub takes_branch : (p : Program) (begins first : Bool) (old new : Gathering) (slot : Slot) (e : SlotEffect) (pfs bundle : ℕ) → MayGather p begins old → Does p (gathered_of old) slot e pfs → first ≡ (begins && is_alloc slot.action)
+pub takes_branch : (p : Program) (begins first : Bool) (old new : Gathering) (slot : Slot) (e : SlotEffect) (pfs bundle : ℕ)
+    → MayGather p begins old → Does p (gathered_of old) slot e pfs → first ≡ (begins && is_alloc slot.action)
     → TakesIn first old new e pfs (first_of bundle) → e.next ≡ Goes bundle → IsGathered p begins old new true
 takes_branch p begins first old new slot e pfs bundle may does flag took taken = record {
-  ends = λ _ most. rw (took.end, may.running) (branches p begins first (gathered_of old) (gathered_of new) slot e pfs does flag bundle took.value taken most);
+  ends =
+      λ _ most. rw (took.end, may.running) (branches p begins first (gathered_of old)
+      (gathered_of new) slot e pfs does flag bundle took.value taken most);
   goes_on = λ go. absurd (cc);
   running = λ go. absurd (cc);
   place = rw took.place (branches_inside p (gathered_of old) slot e pfs bundle does may.program may.place taken);

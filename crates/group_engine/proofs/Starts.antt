@@ -34,7 +34,8 @@ use Rattle.group_engine.proofs.Views.{holds_zero_seen}
 
 -- Of what earlier slots wrote, a branch that isn't indirect sees no more than its qualifying predicate, and what is no branch
 -- sees nothing. So what it does is the same by the registers of the start.
-act_same : (s : Site) (f : Action) (insn : Insn) (now base : Registers) (m : Memory) (unat : ℕ) → is_indirect f ≡ false → insn_action insn ≡ f → act s f (view insn now base) m unat ≡ act s f base m unat
+act_same : (s : Site) (f : Action) (insn : Insn) (now base : Registers) (m : Memory) (unat : ℕ) → is_indirect f ≡ false
+    → insn_action insn ≡ f → act s f (view insn now base) m unat ≡ act s f base m unat
 act_same s (Jump disp) insn now base m unat h e = refl
 act_same s (Loop kind disp) insn now base m unat h e = refl
 act_same s (Call b1 (Direct disp)) insn now base m unat h e = refl
@@ -48,7 +49,9 @@ skip_same s (Test kind p1 p2 r2 r3 c) insn now base m = refl
 skip_same s (Loop kind disp) insn now base m = refl
 skip_same s f insn now base m = refl
 
-done_same : (executed : Bool) (s : Site) (f : Action) (insn : Insn) (now base : Registers) (m : Memory) (unat : ℕ) → (executed ≡ true → is_indirect f ≡ false) → insn_action insn ≡ f → done executed s f (view insn now base) m unat ≡ done executed s f base m unat
+done_same : (executed : Bool) (s : Site) (f : Action) (insn : Insn) (now base : Registers) (m : Memory) (unat : ℕ)
+    → (executed ≡ true → is_indirect f ≡ false) → insn_action insn ≡ f
+    → done executed s f (view insn now base) m unat ≡ done executed s f base m unat
 done_same true s f insn now base m unat h e = act_same s f insn now base m unat (h refl) e
 done_same false s f insn now base m unat h e = skip_same s f insn now base m
 
@@ -58,25 +61,30 @@ length_predicates (SetPredicate n b ∷ ws) r = length_predicates ws (put (SetPr
 length_predicates (w ∷ ws) r = length_predicates ws (put w r)
 
 -- A branch sees its qualifying predicate as earlier slots wrote it.
-guard_seen : (insn : Insn) (now base : Registers) → is_branch (insn_action insn) ≡ true → length now.predicates ≡ length base.predicates → holds (seen_by base (branch_inputs_of now)) insn.qp ≡ holds (view insn now base) insn.qp
+guard_seen : (insn : Insn) (now base : Registers) → is_branch (insn_action insn) ≡ true → length now.predicates ≡ length base.predicates
+    → holds (seen_by base (branch_inputs_of now)) insn.qp ≡ holds (view insn now base) insn.qp
 guard_seen insn now base branch same =
     let place = predicate_index base.frame insn.qp in
     let itself : (0 + place == place) ≡ true = grind (arith, nat_tests) in
     let sees : sees_predicate insn base.frame (0 + place) ≡ true = rw (branch, itself) refl in
     holds_by_place (seen_by base (branch_inputs_of now)) (view insn now base) insn.qp
-    (λ _. sym (seen_at (sees_predicate insn base.frame) 0 place base.predicates now.predicates false same ∙ ap (λ (b : Bool). if b then get_or now.predicates place false else get_or base.predicates place false) sees))
+    (λ _. sym (seen_at (sees_predicate insn base.frame) 0 place base.predicates now.predicates false same
+    ∙ ap (λ (b : Bool). if b then get_or now.predicates place false else get_or base.predicates place false) sees))
 
 -- A slot is executed exactly where its predicate is 1 in the view of its instruction.
-executed_is : (insn : Insn) (g : Gathered) (slot : Slot) → insn_action insn ≡ slot.action → insn.qp ≡ slot.qp → is_executed slot g ≡ holds (view insn (now_of g) g.base) insn.qp
+executed_is : (insn : Insn) (g : Gathered) (slot : Slot) → insn_action insn ≡ slot.action → insn.qp ≡ slot.qp
+    → is_executed slot g ≡ holds (view insn (now_of g) g.base) insn.qp
 executed_is insn g slot action qp = of (is_branch slot.action) refl
   where
-    of : (b : Bool) → is_branch slot.action ≡ b → holds (seen_by g.base (if b then branch_inputs_of (now_of g) else branch_inputs_of g.base)) slot.qp ≡ holds (view insn (now_of g) g.base) insn.qp
+    of : (b : Bool) → is_branch slot.action ≡ b → holds (seen_by g.base
+        (if b then branch_inputs_of (now_of g) else branch_inputs_of g.base)) slot.qp ≡ holds (view insn (now_of g) g.base) insn.qp
     of true e = rw (← qp) (guard_seen insn (now_of g) g.base (ap is_branch action ∙ e) (length_predicates g.writes g.base))
     of false e = rw (← qp, view_plain insn (now_of g) g.base (ap is_branch action ∙ e)) refl
 
 -- Under p0 a slot is executed.
 pub executed_always : (g : Gathered) (slot : Slot) → slot.qp ≡ 0 → is_executed slot g ≡ true
-executed_always g slot e = holds_zero_seen g.base (if is_branch slot.action then branch_inputs_of (now_of g) else branch_inputs_of g.base) slot.qp e
+executed_always g slot e =
+    holds_zero_seen g.base (if is_branch slot.action then branch_inputs_of (now_of g) else branch_inputs_of g.base) slot.qp e
 
 -- The slot at the place of a group comes next.
 pub comes_next : (p : Program) (g : Gathered) (slot : Slot) → IsProgram p → slot_at p.bundles g.place ≡ Some slot → ComesNext p g slot
@@ -86,13 +94,16 @@ comes_next p g slot program at =
     record { at = at; bundle = r.bundle; ranges = subst (λ (s : Slot). HasActionRanges s.action) i.is r.ranges }
 
 -- The slot at the place of a group is that of the instruction there.
-pub slot_of_insn : (p : Program) (g : Gathered) (slot : Slot) (insn : Insn) → ComesNext p g slot → insn_at p.bundles g.place ≡ Some insn → slot_of p.bundles g.place insn ≡ slot
+pub slot_of_insn : (p : Program) (g : Gathered) (slot : Slot) (insn : Insn) → ComesNext p g slot → insn_at p.bundles g.place ≡ Some insn
+    → slot_of p.bundles g.place insn ≡ slot
 slot_of_insn p g slot insn next at =
     let i = slot_is p.bundles g.place slot next.at in ap (slot_of p.bundles g.place) (same_Some _ _ (sym at ∙ i.here)) ∙ i.is
 
 -- An effect that a slot has by the registers of the start is that of its instruction.
-pub effect_from_start : (p : Program) (g : Gathered) (slot : Slot) (e : SlotEffect) → ComesNext p g slot → (is_executed slot g ≡ true → is_indirect slot.action ≡ false)
-    → outcome_of_effect g.base g.memory e ≡ done (is_executed slot g) (site p g.place.bundle) slot.action g.base g.memory g.unat → MayMake g.base g.memory e.change
+pub effect_from_start : (p : Program) (g : Gathered) (slot : Slot) (e : SlotEffect) → ComesNext p g slot
+    → (is_executed slot g ≡ true → is_indirect slot.action ≡ false)
+    → outcome_of_effect g.base g.memory e ≡ done (is_executed slot g) (site p g.place.bundle) slot.action g.base g.memory g.unat
+    → MayMake g.base g.memory e.change
     → (insn : Insn) → insn_at p.bundles g.place ≡ Some insn → IsEffectOf p g insn e g.base.pfs
 effect_from_start p g slot e next direct value may insn at =
     let is = slot_of_insn p g slot insn next at in
@@ -110,7 +121,8 @@ effect_from_start p g slot e next direct value may insn at =
 
 -- Any effect that a slot other than a branch has by the registers of the start is that of its instruction.
 pub effect_of_plain : (p : Program) (g : Gathered) (slot : Slot) (e : SlotEffect) → ComesNext p g slot → is_branch slot.action ≡ false
-    → outcome_of_effect g.base g.memory e ≡ guarded (site p g.place.bundle) slot.qp slot.action g.base g.memory g.unat → MayMake g.base g.memory e.change
+    → outcome_of_effect g.base g.memory e ≡ guarded (site p g.place.bundle) slot.qp slot.action g.base g.memory g.unat
+    → MayMake g.base g.memory e.change
     → (insn : Insn) → insn_at p.bundles g.place ≡ Some insn → IsEffectOf p g insn e g.base.pfs
 effect_of_plain p g slot e next plain value may insn at =
     let is = slot_of_insn p g slot insn next at in
@@ -118,7 +130,8 @@ effect_of_plain p g slot e next plain value may insn at =
     let here = site p g.place.bundle in
     record {
       value = value
-          ∙ ap (λ r. guarded here slot.qp slot.action r g.memory g.unat) (sym (view_plain insn (now_of g) g.base (ap is_branch action ∙ plain)))
+          ∙ ap (λ r. guarded here slot.qp slot.action r g.memory g.unat)
+          (sym (view_plain insn (now_of g) g.base (ap is_branch action ∙ plain)))
           ∙ ap (λ (s : Slot). guarded here s.qp s.action (view insn (now_of g) g.base) g.memory g.unat) (sym is);
       may = may;
     }

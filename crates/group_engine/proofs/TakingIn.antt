@@ -41,22 +41,39 @@ spills_pfs r pfs c = spills_seen r (record { predicates = r.predicates; branches
 
 -- A group takes in what a slot does.
 pub taken_in : (g : Gathered) (pfs : ℕ) (c : Change) (place : Place)
-    → record { base = g.base; frames = g.frames; writes = g.writes ++ writes_of (record g.base { pfs = pfs }) c; memory = memory_after g.base c g.memory; unat = unat_after (spills_of g.base c) g.unat; place = place }
+    → record {
+      base = g.base;
+      frames = g.frames;
+      writes = g.writes ++ writes_of (record g.base { pfs = pfs }) c;
+      memory = memory_after g.base c g.memory;
+      unat = unat_after (spills_of g.base c) g.unat;
+      place = place;
+    }
     ≡ gathers false g (outcome_making (record g.base { pfs = pfs }) g.memory c Falls) place
 taken_in g pfs c place = rw (memory_pfs g.base pfs c g.memory, spills_pfs g.base pfs c) refl
 
 -- What is kept leaves what all slots so far leave.
-pub latest_on : (ws vs : List Write) (base : Registers) (k : Kept) → k.latest ≡ branch_inputs_of (apply ws base) → (keeping vs k).latest ≡ branch_inputs_of (apply (ws ++ vs) base)
+pub latest_on : (ws vs : List Write) (base : Registers) (k : Kept) → k.latest ≡ branch_inputs_of (apply ws base)
+    → (keeping vs k).latest ≡ branch_inputs_of (apply (ws ++ vs) base)
 latest_on ws vs base k e = latest_kept vs k (apply ws base) e ∙ ap branch_inputs_of (sym (apply_append ws vs base))
 
 -- The frame of the group's first slot comes before all other writes.
-pub frame_taken : (g : Gathered) (o : Outcome) (place : Place) → g.writes ≡ [] → with_frame_ahead (gathers false g o place) ≡ gathers true g o place
+pub frame_taken : (g : Gathered) (o : Outcome) (place : Place) → g.writes ≡ []
+    → with_frame_ahead (gathers false g o place) ≡ gathers true g o place
 frame_taken g o place none = rw none refl
 
 -- An effect comes to the same by what a slot sees and by the registers of the start with the previous function state that it
 -- sees.
-outcome_seen : (r : Registers) (s : BranchInputs) (m : Memory) (e : SlotEffect) → outcome_of_effect (record r { pfs = s.pfs }) m e ≡ outcome_of_effect (seen_by r s) m e
-outcome_seen r s m e = rw (writes_seen r s e.change, memory_seen r s e.change m, spills_seen r s e.change, memory_pfs r s.pfs e.change m, spills_pfs r s.pfs e.change) refl
+outcome_seen : (r : Registers) (s : BranchInputs) (m : Memory) (e : SlotEffect)
+    → outcome_of_effect (record r { pfs = s.pfs }) m e ≡ outcome_of_effect (seen_by r s) m e
+outcome_seen r s m e =
+    rw (
+      writes_seen r s e.change,
+      memory_seen r s e.change m,
+      spills_seen r s e.change,
+      memory_pfs r s.pfs e.change m,
+      spills_pfs r s.pfs e.change,
+    ) refl
 
 -- A change that may be made by what a slot sees may be made by the registers of the start.
 may_seen : (r : Registers) (s : BranchInputs) (m : Memory) (c : Change) → MayMake (seen_by r s) m c → MayMake (record r { pfs = s.pfs }) m c
@@ -65,15 +82,20 @@ may_seen r s m (Exchanged r1 r3 size old value) h = rw (look_with_pfs r s.pfs r3
 may_seen r s m c h = h
 
 -- What a slot does by a view that is that of its instruction.
-pub effect_is : (p : Program) (g : Gathered) (insn : Insn) (e : SlotEffect) (s : BranchInputs) → s ≡ branch_inputs_of (view insn (now_of g) g.base)
-    → outcome_of_effect (seen_by g.base s) g.memory e ≡ guarded (site p g.place.bundle) insn.qp (insn_action insn) (seen_by g.base s) g.memory g.unat → MayMake (seen_by g.base s) g.memory e.change → IsEffectOf p g insn e s.pfs
+pub effect_is : (p : Program) (g : Gathered) (insn : Insn) (e : SlotEffect) (s : BranchInputs)
+    → s ≡ branch_inputs_of (view insn (now_of g) g.base)
+    → outcome_of_effect (seen_by g.base s) g.memory e ≡ guarded (site p g.place.bundle) insn.qp (insn_action insn)
+    (seen_by g.base s) g.memory g.unat → MayMake (seen_by g.base s) g.memory e.change → IsEffectOf p g insn e s.pfs
 effect_is p g insn e s is value may =
     record {
-      value = outcome_seen g.base s g.memory e ∙ value ∙ ap (λ (t : BranchInputs). guarded (site p g.place.bundle) insn.qp (insn_action insn) (seen_by g.base t) g.memory g.unat) is;
+      value =
+          outcome_seen g.base s g.memory e ∙ value ∙ ap (λ (t : BranchInputs). guarded (site p g.place.bundle) insn.qp (insn_action insn)
+          (seen_by g.base t) g.memory g.unat) is;
       may = may_seen g.base s g.memory e.change may;
     }
 
 -- Where it goes on is nothing that a group takes in.
-pub gathers_falling : (first : Bool) (g : Gathered) (r : Registers) (e : SlotEffect) (place : Place) → gathers first g (outcome_of_effect r g.memory e) place ≡ gathers first g (outcome_making r g.memory e.change Falls) place
+pub gathers_falling : (first : Bool) (g : Gathered) (r : Registers) (e : SlotEffect) (place : Place)
+    → gathers first g (outcome_of_effect r g.memory e) place ≡ gathers first g (outcome_making r g.memory e.change Falls) place
 gathers_falling true g r e place = refl
 gathers_falling false g r e place = refl

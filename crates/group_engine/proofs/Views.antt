@@ -25,5 +25,6 @@ pub holds_zero_seen : (r : Registers) (s : BranchInputs) (p : ℕ) → p ≡ 0 �
 holds_zero_seen r s p e = rw e (holds_zero (seen_by r s))
 
 -- What is seen of each other predicate is what stands at its place among those seen.
-pub holds_seen : (r : Registers) (s : BranchInputs) (p : ℕ) → p ≢ 0 → holds (seen_by r s) p ≡ get_or s.predicates (predicate_index r.frame p) false
+pub holds_seen : (r : Registers) (s : BranchInputs) (p : ℕ) → p ≢ 0
+    → holds (seen_by r s) p ≡ get_or s.predicates (predicate_index r.frame p) false
 holds_seen r s p h = holds_at_place (seen_by r s) p h

@@ -52,12 +52,14 @@ state_of g = record { registers = g.registers; memory = memory_of g.in_order; pl
 
 -- What is gathered, with the write of a frame that comes first made before all other writes.
 abbrev pub with_frame_ahead : Gathered → Gathered
-with_frame_ahead g = record g { base = apply (frame_ahead g.writes) g.base; frames = frame_changes (frame_ahead g.writes); writes = after_frame g.writes }
+with_frame_ahead g =
+    record g { base = apply (frame_ahead g.writes) g.base; frames = frame_changes (frame_ahead g.writes); writes = after_frame g.writes }
 
 -- What the slot of an instruction does where its group has come this far, by what it sees: the effect is one of the registers
 -- of the start, with this previous function state.
 pub record IsEffectOf (p : Program) (g : Gathered) (insn : Insn) (e : SlotEffect) (pfs : ℕ) : Type 0 where
-  pub value : outcome_of_effect (record g.base { pfs = pfs }) g.memory e ≡ effect (site p g.place.bundle) insn (view insn (now_of g) g.base) g.memory g.unat
+  pub value : outcome_of_effect (record g.base { pfs = pfs }) g.memory e
+      ≡ effect (site p g.place.bundle) insn (view insn (now_of g) g.base) g.memory g.unat
   pub may : MayMake (record g.base { pfs = pfs }) g.memory e.change
 
 -- This slot comes next in a group.
@@ -103,7 +105,8 @@ pub record MayGather (p : Program) (begins : Bool) (g : Gathering) : Type 0 wher
 -- One slot of a group is gathered, the group's first one or not, and the group is then over or not.
 pub record IsGathered (p : Program) (begins : Bool) (old new : Gathering) (over : Bool) : Type 0 where
   pub ends : over ≡ true → (most : ℕ) → HasGathered (rest_of (suc most) p begins (gathered_of old)) (gathered_of new) new.end
-  pub goes_on : over ≡ false → (most : ℕ) → HasRestOf (rest_of (suc most) p begins (gathered_of old)) (rest_of most p false (gathered_of new))
+  pub goes_on : over ≡ false → (most : ℕ) → HasRestOf (rest_of (suc most) p begins (gathered_of old))
+      (rest_of most p false (gathered_of new))
   pub running : over ≡ false → new.end ≡ None
   pub place : IsPlaceOf p.bundles new.place
   pub latest : new.kept.latest ≡ branch_inputs_of (now_of (gathered_of new))

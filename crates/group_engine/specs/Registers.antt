@@ -5,7 +5,18 @@ use Rattle.ia_meaning.specs.State.{zero_cell, Registers, IsFrame}
 use Rattle.group_engine.specs.declared.registers.GroupRegisters.TheInside.{Inside}
 
 abbrev pub registers_of : Inside → Registers
-registers_of r = record { statics = r.statics; cells = r.cells.items; frame = r.frame; predicates = r.branch_inputs.predicates; branches = r.branch_inputs.branches; unat = r.unat; pfs = r.branch_inputs.pfs; lc = r.lc; ec = r.ec }
+registers_of r =
+    record {
+      statics = r.statics;
+      cells = r.cells.items;
+      frame = r.frame;
+      predicates = r.branch_inputs.predicates;
+      branches = r.branch_inputs.branches;
+      unat = r.unat;
+      pfs = r.branch_inputs.pfs;
+      lc = r.lc;
+      ec = r.ec;
+    }
 
 -- The frame is one, the cells end with it, and there is room for the most that there may be; r0 is 0 without NaT, p0 is 1,
 -- and EC has six bits.

@@ -29,13 +29,17 @@ pub same_command : (arguments : List (List ℕ)) (c d : Command) → command_of 
 same_command arguments c d e f = let same : Some c ≡ Some d = sym e ∙ f in cc
 
 -- What a command writes of what it reads is the output for all that there is.
-output_within : (command : Command) (ws : List WatchState) (all read bytes : List ℕ) (status : Status) → IsReadOf command read all → length read ≤ INPUT_LIMIT → IsCommandOutput command ws read bytes status
+output_within : (command : Command) (ws : List WatchState) (all read bytes : List ℕ) (status : Status) → IsReadOf command read all
+    → length read ≤ INPUT_LIMIT → IsCommandOutput command ws read bytes status
     → MatchBool (is_too_long command all) (IsSilent TooLong bytes status) (IsCommandOutput command ws all bytes status)
 output_within (Trial seed bundles) ws all read bytes status is within o = o
 output_within command ws all read bytes status is within o =
-    subst (λ i. MatchBool (is_too_long command i) (IsSilent TooLong bytes status) (IsCommandOutput command ws i bytes status)) is (rw (le-ltb INPUT_LIMIT (length read) within) o)
+    subst (λ i. MatchBool (is_too_long command i) (IsSilent TooLong bytes status) (IsCommandOutput command ws i bytes status)) is
+    (rw (le-ltb INPUT_LIMIT (length read) within) o)
 
-pub output_of : (arguments : List (List ℕ)) (command : Command) (ws : List WatchState) (all read bytes : List ℕ) (status : Status) → command_of arguments ≡ Some command → IsReadOf command read all → length read ≤ INPUT_LIMIT → IsCommandOutput command ws read bytes status → IsOutput arguments ws all bytes status
+pub output_of : (arguments : List (List ℕ)) (command : Command) (ws : List WatchState) (all read bytes : List ℕ) (status : Status)
+    → command_of arguments ≡ Some command → IsReadOf command read all → length read ≤ INPUT_LIMIT
+    → IsCommandOutput command ws read bytes status → IsOutput arguments ws all bytes status
 output_of arguments command ws all read bytes status e is within o = rw e (output_within command ws all read bytes status is within o)
 
 -- A longer input is too long, where it is read.
@@ -44,28 +48,41 @@ beyond_within : (command : Command) (ws : List WatchState) (input : List ℕ) �
 beyond_within (Trial seed bundles) ws input reads beyond = absurd (reads tt)
 beyond_within command ws input reads beyond = rw (lt-ltb INPUT_LIMIT (length input) beyond) (refl, refl)
 
-output_beyond : (arguments : List (List ℕ)) (command : Command) (ws : List WatchState) (input : List ℕ) → command_of arguments ≡ Some command → ¬ IsTrial (Some command) → INPUT_LIMIT < length input → IsOutput arguments ws input [] TooLong
+output_beyond : (arguments : List (List ℕ)) (command : Command) (ws : List WatchState) (input : List ℕ)
+    → command_of arguments ≡ Some command → ¬ IsTrial (Some command) → INPUT_LIMIT < length input → IsOutput arguments ws input [] TooLong
 output_beyond arguments command ws input e reads beyond = rw e (beyond_within command ws input reads beyond)
 
-pub too_long : (arguments : List (List ℕ)) (command : Command) (ws : List WatchState) (left given : Option (List ℕ)) → command_of arguments ≡ Some command → ¬ IsTrial (Some command) → IfSome left (λ l. INPUT_LIMIT < length l) → IfSome left (λ input. GivesOutput arguments ws input given given TooLong)
+pub too_long : (arguments : List (List ℕ)) (command : Command) (ws : List WatchState) (left given : Option (List ℕ))
+    → command_of arguments ≡ Some command → ¬ IsTrial (Some command) → IfSome left (λ l. INPUT_LIMIT < length l)
+    → IfSome left (λ input. GivesOutput arguments ws input given given TooLong)
 too_long arguments command ws None given e reads h = tt
 too_long arguments command ws (Some input) given e reads h = ([], output_beyond arguments command ws input e reads h, Appends-nil given)
 
 -- arguments that are no command write nothing.
-pub no_command : (arguments : List (List ℕ)) (ws : List WatchState) (left given : Option (List ℕ)) → command_of arguments ≡ None → IfSome left (λ input. GivesOutput arguments ws input given given Words)
+pub no_command : (arguments : List (List ℕ)) (ws : List WatchState) (left given : Option (List ℕ)) → command_of arguments ≡ None
+    → IfSome left (λ input. GivesOutput arguments ws input given given Words)
 no_command arguments ws None given e = tt
 no_command arguments ws (Some input) given e = ([], rw e (refl, refl), Appends-nil given)
 
-pub answered : (arguments : List (List ℕ)) (command : Command) (ws : List WatchState) (left given new : Option (List ℕ)) (input bytes : List ℕ) (status : Status) → command_of arguments ≡ Some command → IfSome left (IsReadOf command input) → length input ≤ INPUT_LIMIT → IsCommandOutput command ws input bytes status → Appends given new bytes → IfSome left (λ i. GivesOutput arguments ws i given new status)
+pub answered : (arguments : List (List ℕ)) (command : Command) (ws : List WatchState) (left given new : Option (List ℕ))
+    (input bytes : List ℕ) (status : Status) → command_of arguments ≡ Some command → IfSome left (IsReadOf command input)
+    → length input ≤ INPUT_LIMIT → IsCommandOutput command ws input bytes status → Appends given new bytes
+    → IfSome left (λ i. GivesOutput arguments ws i given new status)
 answered arguments command ws None given new input bytes status e whole within o appended = tt
-answered arguments command ws (Some l) given new input bytes status e whole within o appended = (bytes, output_of arguments command ws l input bytes status e whole within o, appended)
+answered arguments command ws (Some l) given new input bytes status e whole within o appended =
+    (bytes, output_of arguments command ws l input bytes status e whole within o, appended)
 
-pub given_in_part : (arguments : List (List ℕ)) (command : Command) (ws : List WatchState) (left given new : Option (List ℕ)) (input bytes : List ℕ) (status : Status) → command_of arguments ≡ Some command → IfSome left (IsReadOf command input) → length input ≤ INPUT_LIMIT → IsCommandOutput command ws input bytes status → ((count : ℕ) × (count < length bytes) × Appends given new (take count bytes)) → IfSome left (λ i. GivesPart arguments ws i given new)
+pub given_in_part : (arguments : List (List ℕ)) (command : Command) (ws : List WatchState) (left given new : Option (List ℕ))
+    (input bytes : List ℕ) (status : Status) → command_of arguments ≡ Some command → IfSome left (IsReadOf command input)
+    → length input ≤ INPUT_LIMIT → IsCommandOutput command ws input bytes status
+    → ((count : ℕ) × (count < length bytes) × Appends given new (take count bytes)) → IfSome left (λ i. GivesPart arguments ws i given new)
 given_in_part arguments command ws None given new input bytes status e whole within o part = tt
-given_in_part arguments command ws (Some l) given new input bytes status e whole within o part = (bytes, status, output_of arguments command ws l input bytes status e whole within o, part)
+given_in_part arguments command ws (Some l) given new input bytes status e whole within o part =
+    (bytes, status, output_of arguments command ws l input bytes status e whole within o, part)
 
 -- A slice of what was read is what was read.
-pub same_read : (command : Command) (left : Option (List ℕ)) (slice input : List ℕ) → slice ≡ input → IfSome left (IsReadOf command input) → IfSome left (IsReadOf command slice)
+pub same_read : (command : Command) (left : Option (List ℕ)) (slice input : List ℕ) → slice ≡ input → IfSome left (IsReadOf command input)
+    → IfSome left (IsReadOf command slice)
 same_read command left slice input e whole = subst (λ i. IfSome left (IsReadOf command i)) (sym e) whole
 
 -- What is said of the program that an input is read as: a text has to be within the limit, and an image is.
@@ -73,9 +90,11 @@ abbrev OfProgram : (Program → Type 0) → List ℕ → Type 0
 OfProgram P input = (¬ BeginsAsImage input → length input ≤ INPUT_LIMIT) → (p : Program) → as_either.Gives input p → P p
 
 short_image : ImageSize → (p : Program) (input : List ℕ) → Spells p input → length input ≤ INPUT_LIMIT
-short_image size p input s = let n = size p input s in let r = s.1.program.counts in omega (arith, n, r.bundles, r.entries, r.bytes, r.relations)
+short_image size p input s =
+    let n = size p input s in let r = s.1.program.counts in omega (arith, n, r.bundles, r.entries, r.bytes, r.relations)
 
-short_either : ImageSize → (p : Program) (input : List ℕ) → (¬ BeginsAsImage input → length input ≤ INPUT_LIMIT) → as_either.Gives input p → length input ≤ INPUT_LIMIT
+short_either : ImageSize → (p : Program) (input : List ℕ) → (¬ BeginsAsImage input → length input ≤ INPUT_LIMIT) → as_either.Gives input p
+    → length input ≤ INPUT_LIMIT
 short_either size p input within (inl image) = short_image size p input image.1
 short_either size p input within (inr text) = within text.0
 
@@ -91,24 +110,32 @@ of_whole P l input whole h within p g = h p (subst (λ i. as_either.Gives i p) (
 abbrev AcceptsFree : List (List ℕ) → Status → List ℕ → Type 0
 AcceptsFree arguments status input = command_of arguments ≡ Some Check → OfProgram (λ p. (status ≡ Done) ↔ HasNoViolation p) input
 
-pub accepted_beyond : ImageSize → (arguments : List (List ℕ)) (left : Option (List ℕ)) → IfSome left (λ l. INPUT_LIMIT < length l) → IfSome left (AcceptsFree arguments TooLong)
+pub accepted_beyond : ImageSize → (arguments : List (List ℕ)) (left : Option (List ℕ)) → IfSome left (λ l. INPUT_LIMIT < length l)
+    → IfSome left (AcceptsFree arguments TooLong)
 accepted_beyond size arguments None h = tt
 accepted_beyond size arguments (Some input) h = λ e. none_beyond size (λ p. (TooLong ≡ Done) ↔ HasNoViolation p) input h
 
-pub accepted_within : (arguments : List (List ℕ)) (command : Command) (left : Option (List ℕ)) (input : List ℕ) (status : Status) → command_of arguments ≡ Some command → IfSome left (IsReadOf command input)
-    → (command ≡ Check → (p : Program) → as_either.Gives input p → ((status ≡ Done) ↔ HasNoViolation p)) → IfSome left (AcceptsFree arguments status)
+pub accepted_within : (arguments : List (List ℕ)) (command : Command) (left : Option (List ℕ)) (input : List ℕ) (status : Status)
+    → command_of arguments ≡ Some command → IfSome left (IsReadOf command input)
+    → (command ≡ Check → (p : Program) → as_either.Gives input p → ((status ≡ Done) ↔ HasNoViolation p))
+    → IfSome left (AcceptsFree arguments status)
 accepted_within arguments command None input status e whole h = tt
 accepted_within arguments command (Some l) input status e whole h =
-    λ f. let is = same_command arguments command Check e f in of_whole (λ p. (status ≡ Done) ↔ HasNoViolation p) l input (subst (λ k. IsReadOf k input l) is whole) (h is)
+    λ f. let is =
+    same_command arguments command Check e f in of_whole (λ p. (status ≡ Done) ↔ HasNoViolation p) l input
+    (subst (λ k. IsReadOf k input l) is whole) (h is)
 
 -- What has violations.
 abbrev JudgesProgram : List (List ℕ) → Status → List ℕ → Type 0
 JudgesProgram arguments status input =
-    (command : Command) → command_of arguments ≡ Some command → Judges command → OfProgram (λ p. (status ≡ Violated) ↔ (¬ HasNoViolation p)) input
+    (command : Command) → command_of arguments ≡ Some command → Judges command
+    → OfProgram (λ p. (status ≡ Violated) ↔ (¬ HasNoViolation p)) input
 
-pub judged_beyond : ImageSize → (arguments : List (List ℕ)) (left : Option (List ℕ)) → IfSome left (λ l. INPUT_LIMIT < length l) → IfSome left (JudgesProgram arguments TooLong)
+pub judged_beyond : ImageSize → (arguments : List (List ℕ)) (left : Option (List ℕ)) → IfSome left (λ l. INPUT_LIMIT < length l)
+    → IfSome left (JudgesProgram arguments TooLong)
 judged_beyond size arguments None h = tt
-judged_beyond size arguments (Some input) h = λ command e judges. none_beyond size (λ p. (TooLong ≡ Violated) ↔ (¬ HasNoViolation p)) input h
+judged_beyond size arguments (Some input) h =
+    λ command e judges. none_beyond size (λ p. (TooLong ≡ Violated) ↔ (¬ HasNoViolation p)) input h
 
 -- What is judged is read whole.
 judged_whole : (command : Command) (input l : List ℕ) → Judges command → IsReadOf command input l → input ≡ l
@@ -118,8 +145,10 @@ judged_whole (Watch groups) input l judges is = is
 judged_whole (Trace first count) input l judges is = is
 judged_whole command input l judges is = absurd judges
 
-pub judged_within : (arguments : List (List ℕ)) (command : Command) (left : Option (List ℕ)) (input : List ℕ) (status : Status) → command_of arguments ≡ Some command → IfSome left (IsReadOf command input)
-    → (Judges command → (p : Program) → as_either.Gives input p → ((status ≡ Violated) ↔ (¬ HasNoViolation p))) → IfSome left (JudgesProgram arguments status)
+pub judged_within : (arguments : List (List ℕ)) (command : Command) (left : Option (List ℕ)) (input : List ℕ) (status : Status)
+    → command_of arguments ≡ Some command → IfSome left (IsReadOf command input)
+    → (Judges command → (p : Program) → as_either.Gives input p → ((status ≡ Violated) ↔ (¬ HasNoViolation p)))
+    → IfSome left (JudgesProgram arguments status)
 judged_within arguments command None input status e whole h = tt
 judged_within arguments command (Some l) input status e whole h =
     λ other f judges.
@@ -129,11 +158,14 @@ judged_within arguments command (Some l) input status e whole h =
 -- What is run: the end of the run tells the status.
 abbrev TellsEnd : List (List ℕ) → Status → List ℕ → Type 0
 TellsEnd arguments status input =
-    (command : Command) (groups : ℕ) → command_of arguments ≡ Some command → groups_of command ≡ Some groups → OfProgram (λ p. HasNoViolation p → status ≡ end_status (run_of p groups).end) input
+    (command : Command) (groups : ℕ) → command_of arguments ≡ Some command → groups_of command ≡ Some groups
+    → OfProgram (λ p. HasNoViolation p → status ≡ end_status (run_of p groups).end) input
 
-pub ended_beyond : ImageSize → (arguments : List (List ℕ)) (left : Option (List ℕ)) → IfSome left (λ l. INPUT_LIMIT < length l) → IfSome left (TellsEnd arguments TooLong)
+pub ended_beyond : ImageSize → (arguments : List (List ℕ)) (left : Option (List ℕ)) → IfSome left (λ l. INPUT_LIMIT < length l)
+    → IfSome left (TellsEnd arguments TooLong)
 ended_beyond size arguments None h = tt
-ended_beyond size arguments (Some input) h = λ command groups e runs. none_beyond size (λ p. HasNoViolation p → TooLong ≡ end_status (run_of p groups).end) input h
+ended_beyond size arguments (Some input) h =
+    λ command groups e runs. none_beyond size (λ p. HasNoViolation p → TooLong ≡ end_status (run_of p groups).end) input h
 
 -- What is run is read whole.
 pub run_whole : (command : Command) (groups : ℕ) (input l : List ℕ) → groups_of command ≡ Some groups → IsReadOf command input l → input ≡ l
@@ -142,33 +174,43 @@ run_whole (Watch n) groups input l runs read = read
 run_whole (Trace first count) groups input l runs read = read
 run_whole command groups input l runs read = cc
 
-pub ended_within : (arguments : List (List ℕ)) (command : Command) (left : Option (List ℕ)) (input : List ℕ) (status : Status) → command_of arguments ≡ Some command → IfSome left (IsReadOf command input)
-    → ((groups : ℕ) → groups_of command ≡ Some groups → (p : Program) → as_either.Gives input p → HasNoViolation p → status ≡ end_status (run_of p groups).end) → IfSome left (TellsEnd arguments status)
+pub ended_within : (arguments : List (List ℕ)) (command : Command) (left : Option (List ℕ)) (input : List ℕ) (status : Status)
+    → command_of arguments ≡ Some command → IfSome left (IsReadOf command input)
+    → ((groups : ℕ) → groups_of command ≡ Some groups → (p : Program) → as_either.Gives input p → HasNoViolation p
+    → status ≡ end_status (run_of p groups).end) → IfSome left (TellsEnd arguments status)
 ended_within arguments command None input status e whole h = tt
 ended_within arguments command (Some l) input status e whole h =
     λ other groups f runs.
     let mine : groups_of command ≡ Some groups = subst (λ k. groups_of k ≡ Some groups) (same_command arguments other command f e) runs in
-    of_whole (λ p. HasNoViolation p → status ≡ end_status (run_of p groups).end) l input (run_whole command groups input l mine whole) (h groups mine)
+    of_whole (λ p. HasNoViolation p → status ≡ end_status (run_of p groups).end) l input (run_whole command groups input l mine whole)
+    (h groups mine)
 
 -- What the watchers of `watch` have seen.
 abbrev WatchesProgram : List (List ℕ) → (old now : List WatchState) → List ℕ → Type 0
 WatchesProgram arguments old now input =
-    (groups : ℕ) → command_of arguments ≡ Some (Watch groups) → OfProgram (λ p. HasNoViolation p → now ≡ staying (run_of p groups).events old) input
+    (groups : ℕ) → command_of arguments ≡ Some (Watch groups) → OfProgram
+    (λ p. HasNoViolation p → now ≡ staying (run_of p groups).events old) input
 
-pub watched_beyond : ImageSize → (arguments : List (List ℕ)) (left : Option (List ℕ)) (old now : List WatchState) → IfSome left (λ l. INPUT_LIMIT < length l) → IfSome left (WatchesProgram arguments old now)
+pub watched_beyond : ImageSize → (arguments : List (List ℕ)) (left : Option (List ℕ)) (old now : List WatchState)
+    → IfSome left (λ l. INPUT_LIMIT < length l) → IfSome left (WatchesProgram arguments old now)
 watched_beyond size arguments None old now h = tt
-watched_beyond size arguments (Some input) old now h = λ groups e. none_beyond size (λ p. HasNoViolation p → now ≡ staying (run_of p groups).events old) input h
+watched_beyond size arguments (Some input) old now h =
+    λ groups e. none_beyond size (λ p. HasNoViolation p → now ≡ staying (run_of p groups).events old) input h
 
-pub watched_within : (arguments : List (List ℕ)) (command : Command) (left : Option (List ℕ)) (old now : List WatchState) (input : List ℕ) → command_of arguments ≡ Some command → IfSome left (IsReadOf command input)
+pub watched_within : (arguments : List (List ℕ)) (command : Command) (left : Option (List ℕ)) (old now : List WatchState) (input : List ℕ)
+    → command_of arguments ≡ Some command → IfSome left (IsReadOf command input)
     → ((groups : ℕ) → command ≡ Watch groups → HaveWatched groups input old now) → IfSome left (WatchesProgram arguments old now)
 watched_within arguments command None old now input e whole h = tt
 watched_within arguments command (Some l) old now input e whole h =
     λ groups f.
     let is = same_command arguments command (Watch groups) e f in
-    of_whole (λ p. HasNoViolation p → now ≡ staying (run_of p groups).events old) l input (subst (λ k. IsReadOf k input l) is whole) (h groups is)
+    of_whole (λ p. HasNoViolation p → now ≡ staying (run_of p groups).events old) l input (subst (λ k. IsReadOf k input l) is whole)
+    (h groups is)
 
-pub cut_within : (arguments : List (List ℕ)) (command : Command) (left : Option (List ℕ)) (old now : List WatchState) (input : List ℕ) → command_of arguments ≡ Some command → IfSome left (IsReadOf command input)
-    → ((groups : ℕ) → command ≡ Watch groups → HaveWatchedPart groups input old now) → IfSome left (λ l. (groups : ℕ) → command_of arguments ≡ Some (Watch groups) → HaveWatchedPart groups l old now)
+pub cut_within : (arguments : List (List ℕ)) (command : Command) (left : Option (List ℕ)) (old now : List WatchState) (input : List ℕ)
+    → command_of arguments ≡ Some command → IfSome left (IsReadOf command input)
+    → ((groups : ℕ) → command ≡ Watch groups → HaveWatchedPart groups input old now)
+    → IfSome left (λ l. (groups : ℕ) → command_of arguments ≡ Some (Watch groups) → HaveWatchedPart groups l old now)
 cut_within arguments command None old now input e whole h = tt
 cut_within arguments command (Some l) old now input e whole h =
     λ groups f.
@@ -181,21 +223,26 @@ abbrev pub TellsOfGroups : List (List ℕ) → (ℕ → ℕ → Program → Type
 TellsOfGroups arguments Tells input =
     (groups number : ℕ) → command_of arguments ≡ Some (Groups groups number) → OfProgram (Tells groups number) input
 
-pub groups_beyond : ImageSize → (arguments : List (List ℕ)) (Tells : List ℕ → ℕ → ℕ → Program → Type 0) (left : Option (List ℕ)) → IfSome left (λ l. INPUT_LIMIT < length l) → IfSome left (λ l. TellsOfGroups arguments (Tells l) l)
+pub groups_beyond : ImageSize → (arguments : List (List ℕ)) (Tells : List ℕ → ℕ → ℕ → Program → Type 0) (left : Option (List ℕ))
+    → IfSome left (λ l. INPUT_LIMIT < length l) → IfSome left (λ l. TellsOfGroups arguments (Tells l) l)
 groups_beyond size arguments Tells None h = tt
 groups_beyond size arguments Tells (Some l) h = λ groups number e. none_beyond size (Tells l groups number) l h
 
-pub groups_within : (arguments : List (List ℕ)) (command : Command) (Tells : List ℕ → ℕ → ℕ → Program → Type 0) (left : Option (List ℕ)) (input : List ℕ) → command_of arguments ≡ Some command → IfSome left (IsReadOf command input)
-    → ((groups number : ℕ) → command ≡ Groups groups number → (p : Program) → as_either.Gives input p → Tells input groups number p) → IfSome left (λ l. TellsOfGroups arguments (Tells l) l)
+pub groups_within : (arguments : List (List ℕ)) (command : Command) (Tells : List ℕ → ℕ → ℕ → Program → Type 0) (left : Option (List ℕ))
+    (input : List ℕ) → command_of arguments ≡ Some command → IfSome left (IsReadOf command input)
+    → ((groups number : ℕ) → command ≡ Groups groups number → (p : Program) → as_either.Gives input p → Tells input groups number p)
+    → IfSome left (λ l. TellsOfGroups arguments (Tells l) l)
 groups_within arguments command Tells None input e whole h = tt
 groups_within arguments command Tells (Some l) input e whole h =
     λ groups number f.
     let is = same_command arguments command (Groups groups number) e f in
     let read : input ≡ l = subst (λ k. IsReadOf k input l) is whole in
-    of_whole (Tells l groups number) l input read (subst (λ i. (p : Program) → as_either.Gives input p → Tells i groups number p) read (h groups number is))
+    of_whole (Tells l groups number) l input read (subst (λ i. (p : Program) → as_either.Gives input p → Tells i groups number p) read
+    (h groups number is))
 
 -- Where no accepted program was read nothing was run.
-ran_nothing : (text : Printing) (groups : ℕ) (input bytes : List ℕ) (status : Status) → IsRunAs text groups as_either input bytes status → IsNotRun input → RanNothing status
+ran_nothing : (text : Printing) (groups : ℕ) (input bytes : List ℕ) (status : Status) → IsRunAs text groups as_either input bytes status
+    → IsNotRun input → RanNothing status
 ran_nothing text groups input bytes Done o none = absurd (none o.0 o.1 (o.2).free)
 ran_nothing text groups input bytes Violated o none = tt
 ran_nothing text groups input bytes Limit o none = absurd (none o.0 o.1 (o.2).free)
@@ -205,7 +252,8 @@ ran_nothing text groups input bytes status o none = absurd o
 
 -- A list that stays as it was under every command but `watch`, and where nothing was run, stays so where no accepted program was
 -- read.
-pub not_run_within : {L : Type 0} (command : Command) (left : Option (List ℕ)) (ws : List WatchState) (old now : L) (input bytes : List ℕ) (status : Status) → IfSome left (IsReadOf command input) → IsCommandOutput command ws input bytes status
+pub not_run_within : {L : Type 0} (command : Command) (left : Option (List ℕ)) (ws : List WatchState) (old now : L) (input bytes : List ℕ)
+    (status : Status) → IfSome left (IsReadOf command input) → IsCommandOutput command ws input bytes status
     → (¬ IsWatch (Some command) → now ≡ old) → (RanNothing status → now ≡ old) → IfSome left (λ l. IsNotRun l → now ≡ old)
 not_run_within command None ws old now input bytes status whole o other not_run = tt
 not_run_within (Watch groups) (Some l) ws old now input bytes status whole o other not_run =
@@ -213,14 +261,19 @@ not_run_within (Watch groups) (Some l) ws old now input bytes status whole o oth
 not_run_within command (Some l) ws old now input bytes status whole o other not_run = λ none. other (λ watch. watch)
 
 -- More bytes than the limit were there where more were taken.
-pub beyond : (P : Type 0) (left new : Option (List ℕ)) → P → IfSome left (λ l. P ↔ LosesFirst (INPUT_LIMIT + 1) l new) → IfSome left (λ l. INPUT_LIMIT < length l)
+pub beyond : (P : Type 0) (left new : Option (List ℕ)) → P → IfSome left (λ l. P ↔ LosesFirst (INPUT_LIMIT + 1) l new)
+    → IfSome left (λ l. INPUT_LIMIT < length l)
 beyond P None new p h = tt
 beyond P (Some l) new p h = let t = (h.0 p).0 in omega arith
 
 -- A source that is as it was lost no byte.
 pub untouched : (P : Type 0) (left : Option (List ℕ)) → ¬ P → IfSome left (λ l. P ↔ LosesFirst (INPUT_LIMIT + 1) l left)
 untouched P None other = tt
-untouched P (Some l) other = (λ p. absurd (other p), λ loses. let e : l ≡ drop (INPUT_LIMIT + 1) l = cc in absurd (omega (arith, loses.0, ap length e, length-drop (INPUT_LIMIT + 1) l)))
+untouched P (Some l) other = (
+  λ p. absurd (other p),
+  λ loses. let e : l ≡ drop (INPUT_LIMIT + 1) l = cc in
+      absurd (omega (arith, loses.0, ap length e, length-drop (INPUT_LIMIT + 1) l)),
+)
 
 -- What a command answers to an input within the limit is never that it is too long.
 not_too_long : (command : Command) (ws : List WatchState) (input bytes : List ℕ) → IsCommandOutput command ws input bytes TooLong → ⊥
@@ -237,6 +290,11 @@ not_too_long (Trace first count) ws input bytes o = o
 not_too_long (Groups groups number) ws input bytes o = o
 not_too_long (Trial seed bundles) ws input bytes o = o
 
-pub read_whole : (P : Type 0) (command : Command) (ws : List WatchState) (left new : Option (List ℕ)) (input bytes : List ℕ) (status : Status) → ¬ P → IfSome left (λ l. P ↔ LosesFirst (INPUT_LIMIT + 1) l new) → IsCommandOutput command ws input bytes status → IfSome left (λ l. (status ≡ TooLong) ↔ LosesFirst (INPUT_LIMIT + 1) l new)
+pub read_whole : (P : Type 0) (command : Command) (ws : List WatchState) (left new : Option (List ℕ)) (input bytes : List ℕ)
+    (status : Status) → ¬ P → IfSome left (λ l. P ↔ LosesFirst (INPUT_LIMIT + 1) l new) → IsCommandOutput command ws input bytes status
+    → IfSome left (λ l. (status ≡ TooLong) ↔ LosesFirst (INPUT_LIMIT + 1) l new)
 read_whole P command ws None new input bytes status whole loses o = tt
-read_whole P command ws (Some l) new input bytes status whole loses o = (λ e. absurd (not_too_long command ws input bytes (subst (IsCommandOutput command ws input bytes) e o)), λ gone. absurd (whole (loses.1 gone)))
+read_whole P command ws (Some l) new input bytes status whole loses o = (
+  λ e. absurd (not_too_long command ws input bytes (subst (IsCommandOutput command ws input bytes) e o)),
+  λ gone. absurd (whole (loses.1 gone)),
+)

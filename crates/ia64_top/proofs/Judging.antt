@@ -34,29 +34,38 @@ violated_of_verdict p (Accepted q) exact = (λ e. cc, λ n. absurd (n exact.1))
 violated_of_verdict p (Violations r) exact = (λ e. not_free p r exact, λ n. refl)
 
 -- A verdict as it is printed and answered.
-pub judgement_of : (p : Program) (v : Verdict) (bytes : List ℕ) (status : Status) → IsProgram p → IsVerdict p v → (bytes ≡ verdict_text v) × (status ≡ verdict_status v) → IsJudgement p bytes status
-judgement_of p v bytes status program exact told = record { program = program; verdict = v; exact = exact; printed = told.0; tells = told.1 }
+pub judgement_of : (p : Program) (v : Verdict) (bytes : List ℕ) (status : Status) → IsProgram p → IsVerdict p v
+    → (bytes ≡ verdict_text v) × (status ≡ verdict_status v) → IsJudgement p bytes status
+judgement_of p v bytes status program exact told =
+    record { program = program; verdict = v; exact = exact; printed = told.0; tells = told.1 }
 
 pub done_of_judgement : (p : Program) (bytes : List ℕ) (status : Status) → IsJudgement p bytes status → ((status ≡ Done) ↔ HasNoViolation p)
 done_of_judgement p bytes status j = subst (λ s. (s ≡ Done) ↔ HasNoViolation p) (sym j.tells) (done_of_verdict p j.verdict j.exact)
 
-pub violated_of_judgement : (p : Program) (bytes : List ℕ) (status : Status) → IsJudgement p bytes status → ((status ≡ Violated) ↔ (¬ HasNoViolation p))
-violated_of_judgement p bytes status j = subst (λ s. (s ≡ Violated) ↔ (¬ HasNoViolation p)) (sym j.tells) (violated_of_verdict p j.verdict j.exact)
+pub violated_of_judgement : (p : Program) (bytes : List ℕ) (status : Status) → IsJudgement p bytes status
+    → ((status ≡ Violated) ↔ (¬ HasNoViolation p))
+violated_of_judgement p bytes status j =
+    subst (λ s. (s ≡ Violated) ↔ (¬ HasNoViolation p)) (sym j.tells) (violated_of_verdict p j.verdict j.exact)
 
 -- Each row tells the judgement of the program, or the refusal.
-pub told_of_check : (r : InputReading) (input bytes : List ℕ) (status : Status) → IsCheckedAs r input bytes status → IsTold r IsJudgement input bytes status
+pub told_of_check : (r : InputReading) (input bytes : List ℕ) (status : Status) → IsCheckedAs r input bytes status
+    → IsTold r IsJudgement input bytes status
 told_of_check r input bytes Done o = inl o
 told_of_check r input bytes Violated o = inl o
 told_of_check r input bytes Refused o = inr (o, refl)
 told_of_check r input bytes status o = absurd o
 
 -- `Done` is the answer exactly where the program is free, and `Violated` where it isn't
-pub done_where_free : (r : InputReading) → GivesOne r → RefusesNone r → (input bytes : List ℕ) (status : Status) → IsCheckedAs r input bytes status
+pub done_where_free : (r : InputReading) → GivesOne r → RefusesNone r → (input bytes : List ℕ) (status : Status)
+    → IsCheckedAs r input bytes status
     → (p : Program) → r.Gives input p → ((status ≡ Done) ↔ HasNoViolation p)
 done_where_free r one none input bytes status o =
-    holds_where_told r IsJudgement (λ p s. (s ≡ Done) ↔ HasNoViolation p) done_of_judgement one none input bytes status (told_of_check r input bytes status o)
+    holds_where_told r IsJudgement (λ p s. (s ≡ Done) ↔ HasNoViolation p) done_of_judgement one none input bytes status
+    (told_of_check r input bytes status o)
 
-pub violated_where_not_free : (r : InputReading) → GivesOne r → RefusesNone r → (input bytes : List ℕ) (status : Status) → IsCheckedAs r input bytes status
+pub violated_where_not_free : (r : InputReading) → GivesOne r → RefusesNone r → (input bytes : List ℕ) (status : Status)
+    → IsCheckedAs r input bytes status
     → (p : Program) → r.Gives input p → ((status ≡ Violated) ↔ (¬ HasNoViolation p))
 violated_where_not_free r one none input bytes status o =
-    holds_where_told r IsJudgement (λ p s. (s ≡ Violated) ↔ (¬ HasNoViolation p)) violated_of_judgement one none input bytes status (told_of_check r input bytes status o)
+    holds_where_told r IsJudgement (λ p s. (s ≡ Violated) ↔ (¬ HasNoViolation p)) violated_of_judgement one none input bytes status
+    (told_of_check r input bytes status o)

@@ -61,11 +61,14 @@ pub record ReadsOne (r : InputReading) : Type 0 where
 
 -- One answer is told of a program.
 abbrev TellsOne : (Program → List ℕ → Status → Type 0) → Type 0
-TellsOne Tells = (p : Program) (mine bytes : List ℕ) (status other : Status) → Tells p mine status → Tells p bytes other → (bytes ≡ mine) × (other ≡ status)
+TellsOne Tells =
+    (p : Program) (mine bytes : List ℕ) (status other : Status) → Tells p mine status → Tells p bytes other
+    → (bytes ≡ mine) × (other ≡ status)
 
 -- At most one answer is told of an input that reads as at most one program.
 one_told : (r : InputReading) (Tells : Program → List ℕ → Status → Type 0) → TellsOne Tells → ReadsOne r
-    → (input mine bytes : List ℕ) (status other : Status) → IsTold r Tells input mine status → IsTold r Tells input bytes other → (bytes ≡ mine) × (other ≡ status)
+    → (input mine bytes : List ℕ) (status other : Status) → IsTold r Tells input mine status → IsTold r Tells input bytes other
+    → (bytes ≡ mine) × (other ≡ status)
 one_told r Tells single one input mine bytes status other (inl m) (inl o) =
     single m.0 mine bytes status other m.2 (subst (λ x. Tells x bytes other) (one.gives_one input o.0 m.0 o.1 m.1) o.2)
 one_told r Tells single one input mine bytes status other (inl m) (inr o) = absurd (one.refuses_none input m.0 bytes m.1 o.0)
@@ -79,15 +82,18 @@ MakesOne Makes = (p : Program) (mine bytes : List ℕ) → Makes p mine → Make
 abbrev IsMade : (Program → List ℕ → Type 0) → Program → List ℕ → Status → Type 0
 IsMade Makes p bytes status = Makes p bytes × (status ≡ Done)
 
-told_of_made : (r : InputReading) (Makes : Program → List ℕ → Type 0) (input bytes : List ℕ) (status : Status) → IsMadeOutput r Makes input bytes status → IsTold r (IsMade Makes) input bytes status
+told_of_made : (r : InputReading) (Makes : Program → List ℕ → Type 0) (input bytes : List ℕ) (status : Status)
+    → IsMadeOutput r Makes input bytes status → IsTold r (IsMade Makes) input bytes status
 told_of_made r Makes input bytes Done o = inl (o.0, o.1, (o.2, refl))
 told_of_made r Makes input bytes Refused o = inr (o, refl)
 told_of_made r Makes input bytes status o = absurd o
 
 one_made : (r : InputReading) (Makes : Program → List ℕ → Type 0) → MakesOne Makes → ReadsOne r
-    → (input mine bytes : List ℕ) (status other : Status) → IsMadeOutput r Makes input mine status → IsMadeOutput r Makes input bytes other → (bytes ≡ mine) × (other ≡ status)
+    → (input mine bytes : List ℕ) (status other : Status) → IsMadeOutput r Makes input mine status → IsMadeOutput r Makes input bytes other
+    → (bytes ≡ mine) × (other ≡ status)
 one_made r Makes single one input mine bytes status other m o =
-    one_told r (IsMade Makes) (λ p mine bytes status other m o. (single p mine bytes m.0 o.0, o.1 ∙ sym m.1)) one input mine bytes status other
+    one_told r (IsMade Makes) (λ p mine bytes status other m o. (single p mine bytes m.0 o.0, o.1 ∙ sym m.1)) one input mine bytes status
+    other
     (told_of_made r Makes input mine status m) (told_of_made r Makes input bytes other o)
 
 -- A program has one image, one canonical text and one listing.
@@ -100,16 +106,20 @@ one_canonical p mine bytes m o = o.canonical ∙ sym m.canonical
 one_packed_text : OnePlaced → (input : List ℕ) → MakesOne (IsPackedText input)
 one_packed_text one input p mine bytes m o = o.printed ∙ ap packed_text (one input o.packed m.packed o.placed m.placed) ∙ sym m.printed
 
-one_bundle_listing : OneSpelling → (n : ℕ) (b : Bundle) (mine text : List ℕ) → IsBundleListing n b mine → IsBundleListing n b text → text ≡ mine
-one_bundle_listing one n b mine text m o = o.2 ∙ ap (λ bytes. head_listed n bytes b.template ++ slots_text n b.template b.slots) (one b o.0 m.0 o.1 m.1) ∙ sym m.2
+one_bundle_listing : OneSpelling → (n : ℕ) (b : Bundle) (mine text : List ℕ) → IsBundleListing n b mine → IsBundleListing n b text
+    → text ≡ mine
+one_bundle_listing one n b mine text m o =
+    o.2 ∙ ap (λ bytes. head_listed n bytes b.template ++ slots_text n b.template b.slots) (one b o.0 m.0 o.1 m.1) ∙ sym m.2
 
 both : (a b c d : List ℕ) → a ≡ b → c ≡ d → a ++ c ≡ b ++ d
 both a b c d e f = rw (e, f) refl
 
-one_listing_from : OneSpelling → (n : ℕ) (bs : List Bundle) (mine text : List ℕ) → AreBundleListings n bs mine → AreBundleListings n bs text → text ≡ mine
+one_listing_from : OneSpelling → (n : ℕ) (bs : List Bundle) (mine text : List ℕ) → AreBundleListings n bs mine → AreBundleListings n bs text
+    → text ≡ mine
 one_listing_from one n [] mine text m o = o ∙ sym m
 one_listing_from one n (b ∷ bs) mine text (front, rest, is, head, tail) (front', rest', is', head', tail') =
-    is' ∙ both front' front rest' rest (one_bundle_listing one n b front front' head head') (one_listing_from one (n + 1) bs rest rest' tail tail') ∙ sym is
+    is' ∙ both front' front rest' rest (one_bundle_listing one n b front front' head head')
+    (one_listing_from one (n + 1) bs rest rest' tail tail') ∙ sym is
 
 one_listing : OneSpelling → MakesOne IsListing
 one_listing one p mine text m o = one_listing_from one 0 p.bundles mine text m o
@@ -131,7 +141,8 @@ one_numbered_run : (groups number : ℕ) → TellsOne (IsNumberedRunAnswer group
 one_numbered_run groups number p mine bytes status other m o = (o.printed ∙ sym m.printed, o.ends ∙ sym m.ends)
 
 -- `trial` writes one output for its two numbers.
-one_trial : OneVerdict → (seed bundles : ℕ) (mine bytes : List ℕ) (status other : Status) → IsTrialOutput seed bundles mine status → IsTrialOutput seed bundles bytes other → (bytes ≡ mine) × (other ≡ status)
+one_trial : OneVerdict → (seed bundles : ℕ) (mine bytes : List ℕ) (status other : Status) → IsTrialOutput seed bundles mine status
+    → IsTrialOutput seed bundles bytes other → (bytes ≡ mine) × (other ≡ status)
 one_trial one seed bundles mine bytes Done other m o = after_done other o
   where
     after_done : (other : Status) → IsTrialOutput seed bundles bytes other → (bytes ≡ mine) × (other ≡ Done)
@@ -158,43 +169,68 @@ pub record AreOne : Type 0 where
   pub listed : OneSpelling
   pub judged : OneVerdict
 
-pub are_one : OneProgram → OneRawProgram → OneTextProgram → NoFaultWhereSpelled → NoFaultWhereRaw → NoFaultWhereRead → OneFault → OneRawFault → OneTextFault → OneImage → OneSpelling → OneVerdict → OnePlaced → OnePlacingFault → NoFaultWherePlaced → AreOne
-are_one program raw_program text_program spelled raw read fault raw_fault text_fault image spelling verdict placed placing_fault unplaced = record {
-  image = record { gives_one = program; refuses_none = image_refuses_none spelled; refuses_one = image_refuses_one fault };
-  bundles = record { gives_one = raw_program; refuses_none = bundles_refuse_none raw; refuses_one = bundles_refuse_one raw_fault };
-  text = record { gives_one = text_program; refuses_none = text_refuses_none read; refuses_one = text_refuses_one text_fault };
-  loose = record { gives_one = loose_gives_one placed; refuses_none = loose_refuses_none unplaced; refuses_one = loose_refuses_one placing_fault };
-  either = record { gives_one = either_gives_one program text_program; refuses_none = either_refuses_none spelled read; refuses_one = either_refuses_one fault text_fault };
-  placed = placed;
-  spelled = image;
-  listed = spelling;
-  judged = verdict;
-}
+pub are_one : OneProgram → OneRawProgram → OneTextProgram → NoFaultWhereSpelled → NoFaultWhereRaw → NoFaultWhereRead → OneFault
+    → OneRawFault → OneTextFault → OneImage → OneSpelling → OneVerdict → OnePlaced → OnePlacingFault → NoFaultWherePlaced → AreOne
+are_one program raw_program text_program spelled raw read fault raw_fault text_fault image spelling verdict placed placing_fault unplaced =
+    record {
+      image = record { gives_one = program; refuses_none = image_refuses_none spelled; refuses_one = image_refuses_one fault };
+      bundles = record { gives_one = raw_program; refuses_none = bundles_refuse_none raw; refuses_one = bundles_refuse_one raw_fault };
+      text = record { gives_one = text_program; refuses_none = text_refuses_none read; refuses_one = text_refuses_one text_fault };
+      loose =
+          record {
+            gives_one = loose_gives_one placed;
+            refuses_none = loose_refuses_none unplaced;
+            refuses_one = loose_refuses_one placing_fault;
+          };
+      either =
+          record {
+            gives_one = either_gives_one program text_program;
+            refuses_none = either_refuses_none spelled read;
+            refuses_one = either_refuses_one fault text_fault;
+          };
+      placed = placed;
+      spelled = image;
+      listed = spelling;
+      judged = verdict;
+    }
 
-one_command_output : AreOne → (c : Command) (ws : List WatchState) (input mine bytes : List ℕ) (status other : Status) → IsCommandOutput c ws input mine status → IsCommandOutput c ws input bytes other → (bytes ≡ mine) × (other ≡ status)
-one_command_output one command.Build ws input mine bytes status other m o = one_made as_text Written (one_image one.spelled) one.text input mine bytes status other m o
-one_command_output one command.Stops ws input mine bytes status other m o = one_made as_loose (IsPackedText input) (one_packed_text one.placed input) one.loose input mine bytes status other m o
-one_command_output one command.Show ws input mine bytes status other m o = one_made as_image IsCanonical one_canonical one.image input mine bytes status other m o
-one_command_output one command.List ws input mine bytes status other m o = one_made as_image IsListing (one_listing one.listed) one.image input mine bytes status other m o
-one_command_output one command.Wrap ws input mine bytes status other m o = one_made as_bundles Written (one_image one.spelled) one.bundles input mine bytes status other m o
-one_command_output one command.Lift ws input mine bytes status other m o = one_made as_image (IsImage Two) (λ p mine bytes m o. one.spelled Two p bytes mine o m) one.image input mine bytes status other m o
+one_command_output : AreOne → (c : Command) (ws : List WatchState) (input mine bytes : List ℕ) (status other : Status)
+    → IsCommandOutput c ws input mine status → IsCommandOutput c ws input bytes other → (bytes ≡ mine) × (other ≡ status)
+one_command_output one command.Build ws input mine bytes status other m o =
+    one_made as_text Written (one_image one.spelled) one.text input mine bytes status other m o
+one_command_output one command.Stops ws input mine bytes status other m o =
+    one_made as_loose (IsPackedText input) (one_packed_text one.placed input) one.loose input mine bytes status other m o
+one_command_output one command.Show ws input mine bytes status other m o =
+    one_made as_image IsCanonical one_canonical one.image input mine bytes status other m o
+one_command_output one command.List ws input mine bytes status other m o =
+    one_made as_image IsListing (one_listing one.listed) one.image input mine bytes status other m o
+one_command_output one command.Wrap ws input mine bytes status other m o =
+    one_made as_bundles Written (one_image one.spelled) one.bundles input mine bytes status other m o
+one_command_output one command.Lift ws input mine bytes status other m o =
+    one_made as_image (IsImage Two) (λ p mine bytes m o. one.spelled Two p bytes mine o m) one.image input mine bytes status other m o
 one_command_output one command.Check ws input mine bytes status other m o =
-    one_told as_either IsJudgement (one_judgement one.judged) one.either input mine bytes status other (told_of_check as_either input mine status m) (told_of_check as_either input bytes other o)
+    one_told as_either IsJudgement (one_judgement one.judged) one.either input mine bytes status other
+    (told_of_check as_either input mine status m) (told_of_check as_either input bytes other o)
 one_command_output one (command.Run groups) ws input mine bytes status other m o =
     one_told as_either (IsRunAnswer state_after groups) (one_run one.judged state_after groups) one.either input mine bytes status other
     (told_of_run state_after groups as_either input mine status m) (told_of_run state_after groups as_either input bytes other o)
 one_command_output one (command.Watch groups) ws input mine bytes status other m o =
-    one_told as_either (IsRunAnswer (watch_text ws) groups) (one_run one.judged (watch_text ws) groups) one.either input mine bytes status other
+    one_told as_either (IsRunAnswer (watch_text ws) groups) (one_run one.judged (watch_text ws) groups) one.either input mine bytes status
+    other
     (told_of_run (watch_text ws) groups as_either input mine status m) (told_of_run (watch_text ws) groups as_either input bytes other o)
 one_command_output one (command.Trace first count) ws input mine bytes status other m o =
-    one_told as_either (IsRunAnswer (trace_text first count) (first + count)) (one_run one.judged (trace_text first count) (first + count)) one.either input mine bytes status other
-    (told_of_run (trace_text first count) (first + count) as_either input mine status m) (told_of_run (trace_text first count) (first + count) as_either input bytes other o)
+    one_told as_either (IsRunAnswer (trace_text first count) (first + count))
+    (one_run one.judged (trace_text first count) (first + count)) one.either input mine bytes status other
+    (told_of_run (trace_text first count) (first + count) as_either input mine status m)
+    (told_of_run (trace_text first count) (first + count) as_either input bytes other o)
 one_command_output one (command.Groups groups number) ws input mine bytes status other m o =
     one_told as_either (IsNumberedRunAnswer groups number) (one_numbered_run groups number) one.either input mine bytes status other
     (told_of_numbered_run groups number as_either input mine status m) (told_of_numbered_run groups number as_either input bytes other o)
-one_command_output one (command.Trial seed bundles) ws input mine bytes status other m o = one_trial one.judged seed bundles mine bytes status other m o
+one_command_output one (command.Trial seed bundles) ws input mine bytes status other m o =
+    one_trial one.judged seed bundles mine bytes status other m o
 
-one_silent : (s : Status) (mine bytes : List ℕ) (status other : Status) → IsSilent s mine status → IsSilent s bytes other → (bytes ≡ mine) × (other ≡ status)
+one_silent : (s : Status) (mine bytes : List ℕ) (status other : Status) → IsSilent s mine status → IsSilent s bytes other
+    → (bytes ≡ mine) × (other ≡ status)
 one_silent s mine bytes status other m o = (o.0 ∙ sym m.0, o.1 ∙ sym m.1)
 
 pub one_output : AreOne → OneOutput
@@ -206,14 +242,19 @@ one_output one arguments ws input mine bytes status other m o = by_arguments (co
     by_length c false m o = one_command_output one c ws input mine bytes status other m o
 
     by_arguments : (k : Option Command)
-        → MatchOption k (IsSilent Words mine status) (λ c. MatchBool (is_too_long c input) (IsSilent TooLong mine status) (IsCommandOutput c ws input mine status))
-        → MatchOption k (IsSilent Words bytes other) (λ c. MatchBool (is_too_long c input) (IsSilent TooLong bytes other) (IsCommandOutput c ws input bytes other)) → (bytes ≡ mine) × (other ≡ status)
+        → MatchOption k (IsSilent Words mine status) (λ c. MatchBool (is_too_long c input) (IsSilent TooLong mine status)
+        (IsCommandOutput c ws input mine status))
+        → MatchOption k (IsSilent Words bytes other) (λ c. MatchBool (is_too_long c input) (IsSilent TooLong bytes other)
+        (IsCommandOutput c ws input bytes other)) → (bytes ≡ mine) × (other ≡ status)
     by_arguments None m o = one_silent Words mine bytes status other m o
     by_arguments (Some c) m o = by_length c (is_too_long c input) m o
 
 -- What was written is the only output.
-pub only_output : OneOutput → (arguments : List (List ℕ)) (ws : List WatchState) (left old new : Option (List ℕ)) (status : Status) → IfSome left (λ input. GivesOutput arguments ws input old new status)
-    → IfSome left (λ input. (bytes : List ℕ) (other : Status) → IsOutput arguments ws input bytes other → (other ≡ status) × Appends old new bytes)
+pub only_output : OneOutput → (arguments : List (List ℕ)) (ws : List WatchState) (left old new : Option (List ℕ)) (status : Status)
+    → IfSome left (λ input. GivesOutput arguments ws input old new status)
+    → IfSome left (λ input. (bytes : List ℕ) (other : Status) → IsOutput arguments ws input bytes other
+    → (other ≡ status) × Appends old new bytes)
 only_output one arguments ws None old new status given = tt
 only_output one arguments ws (Some input) old new status given =
-    λ bytes other o. let same = one arguments ws input given.0 bytes status other given.1 o in (same.1, subst (Appends old new) (sym same.0) given.2)
+    λ bytes other o. let same =
+    one arguments ws input given.0 bytes status other given.1 o in (same.1, subst (Appends old new) (sym same.0) given.2)

@@ -35,7 +35,8 @@ record RunsAccepted (text : Printing) (groups : ℕ) (input bytes : List ℕ) (s
   accepts : Accepts input p
   runs : IsRunOf text p groups bytes status
 
-of_run : (text : Printing) (groups : ℕ) (input bytes : List ℕ) (status : Status) (p : Program) → as_either.Gives input p → IsRunOf text p groups bytes status → RunsAccepted text groups input bytes status p
+of_run : (text : Printing) (groups : ℕ) (input bytes : List ℕ) (status : Status) (p : Program) → as_either.Gives input p
+    → IsRunOf text p groups bytes status → RunsAccepted text groups input bytes status p
 of_run text groups input bytes status p g o = record { accepts = record { gives = g; program = o.program; free = o.free }; runs = o }
 
 -- A state was printed.
@@ -45,7 +46,8 @@ Ran Limit = Unit {0}
 Ran Faulted = Unit {0}
 Ran status = ⊥
 
-accepted_run : (text : Printing) (groups : ℕ) (input bytes : List ℕ) (status : Status) → Ran status → IsRunAs text groups as_either input bytes status → (p : Program) × RunsAccepted text groups input bytes status p
+accepted_run : (text : Printing) (groups : ℕ) (input bytes : List ℕ) (status : Status) → Ran status
+    → IsRunAs text groups as_either input bytes status → (p : Program) × RunsAccepted text groups input bytes status p
 accepted_run text groups input bytes Done t o = (o.0, of_run text groups input bytes Done o.0 o.1 o.2)
 accepted_run text groups input bytes Limit t o = (o.0, of_run text groups input bytes Limit o.0 o.1 o.2)
 accepted_run text groups input bytes Faulted t o = (o.0, of_run text groups input bytes Faulted o.0 o.1 o.2)
@@ -59,16 +61,20 @@ ran Faulted c t = tt
 ran status c t = absurd t
 
 -- A program that is free is order independent, and what is read is one program.
-robust_given : FreeIsRobust → GivesOne as_either → (input : List ℕ) (q : Program) → as_either.Gives input q → IsProgram q → HasNoViolation q → (p : Program) → as_either.Gives input p → IsRobust p
+robust_given : FreeIsRobust → GivesOne as_either → (input : List ℕ) (q : Program) → as_either.Gives input q → IsProgram q → HasNoViolation q
+    → (p : Program) → as_either.Gives input p → IsRobust p
 robust_given law one input q gives program free p g = subst IsRobust (one input q p gives g) (law q program free)
 
-robust_run : FreeIsRobust → GivesOne as_either → (text : Printing) (groups : ℕ) (input bytes : List ℕ) (status : Status) → Ran status → IsRunAs text groups as_either input bytes status → (p : Program) → as_either.Gives input p → IsRobust p
+robust_run : FreeIsRobust → GivesOne as_either → (text : Printing) (groups : ℕ) (input bytes : List ℕ) (status : Status) → Ran status
+    → IsRunAs text groups as_either input bytes status → (p : Program) → as_either.Gives input p → IsRobust p
 robust_run law one text groups input bytes status ran o p g =
     let a = accepted_run text groups input bytes status ran o in
     let at = a.1.accepts in
     robust_given law one input a.0 at.gives at.program at.free p g
 
-robust_program : FreeIsRobust → GivesOne as_either → OnePlaced → (status : Status) (c : Command) (ws : List WatchState) (all input bytes : List ℕ) → TellsAccepted status c → IsReadOf c input all → IsCommandOutput c ws input bytes status
+robust_program : FreeIsRobust → GivesOne as_either → OnePlaced
+    → (status : Status) (c : Command) (ws : List WatchState) (all input bytes : List ℕ) → TellsAccepted status c → IsReadOf c input all
+    → IsCommandOutput c ws input bytes status
     → (p : Program) → IsProgramOf c all p → IsRobust p
 robust_program law one placed Done Check ws all input bytes t is o p g =
     let j = o.2 in
@@ -78,38 +84,51 @@ robust_program law one placed Done Stops ws all input bytes t is o p g =
     let text = o.2 in
     subst IsRobust (loose_gives_one placed input o.0 p o.1 (subst (λ i. as_loose.Gives i p) (sym is) g)) (law o.0 text.valid text.free)
 robust_program law one placed Done (Trial seed bundles) ws all input bytes t is o p g = subst IsRobust (sym g) o.robust
-robust_program law one placed status (Run groups) ws all input bytes t is o p g = robust_run law one state_after groups input bytes status (ran status (Run groups) t) o p (subst (λ i. as_either.Gives i p) (sym is) g)
-robust_program law one placed status (Watch groups) ws all input bytes t is o p g = robust_run law one (watch_text ws) groups input bytes status (ran status (Watch groups) t) o p (subst (λ i. as_either.Gives i p) (sym is) g)
-robust_program law one placed status (Trace first count) ws all input bytes t is o p g = robust_run law one (trace_text first count) (first + count) input bytes status (ran status (Trace first count) t) o p (subst (λ i. as_either.Gives i p) (sym is) g)
+robust_program law one placed status (Run groups) ws all input bytes t is o p g =
+    robust_run law one state_after groups input bytes status (ran status (Run groups) t) o p (subst (λ i. as_either.Gives i p) (sym is) g)
+robust_program law one placed status (Watch groups) ws all input bytes t is o p g =
+    robust_run law one (watch_text ws) groups input bytes status (ran status (Watch groups) t) o p
+    (subst (λ i. as_either.Gives i p) (sym is) g)
+robust_program law one placed status (Trace first count) ws all input bytes t is o p g =
+    robust_run law one (trace_text first count) (first + count) input bytes status (ran status (Trace first count) t) o p
+    (subst (λ i. as_either.Gives i p) (sym is) g)
 robust_program law one placed status c ws all input bytes t is o p g = absurd t
 
-same_run : (text : Printing) (groups : ℕ) (p : Program) (codes : List (List ℕ)) → ((n : ℕ) → ordered_run_of p codes n ≡ run_of p n) → (bytes : List ℕ) (status : Status) → IsRunOf text p groups bytes status
+same_run : (text : Printing) (groups : ℕ) (p : Program) (codes : List (List ℕ)) → ((n : ℕ) → ordered_run_of p codes n ≡ run_of p n)
+    → (bytes : List ℕ) (status : Status) → IsRunOf text p groups bytes status
     → (bytes ≡ text (ordered_run_of p codes) groups) × (status ≡ end_status (ordered_run_of p codes groups).end)
 same_run text groups p codes same bytes status o =
     let all : ordered_run_of p codes ≡ run_of p = λ i n. same n i in
     (o.printed ∙ sym (ap (λ runs. text runs groups) all), o.ends ∙ sym (ap (λ (r : WholeRun). end_status r.end) (same groups)))
 
-each_order : FreeIsRobust → ZeroIsStart → GivesOne as_either → (text : Printing) (groups : ℕ) (input bytes : List ℕ) (status : Status) → Ran status → IsRunAs text groups as_either input bytes status
+each_order : FreeIsRobust → ZeroIsStart → GivesOne as_either → (text : Printing) (groups : ℕ) (input bytes : List ℕ) (status : Status)
+    → Ran status → IsRunAs text groups as_either input bytes status
     → (p : Program) → as_either.Gives input p → IsRunOfEveryOrder text p groups bytes status
 each_order law zero one text groups input bytes status ran o p g =
     let a = accepted_run text groups input bytes status ran o in
     let k = a.1 in
     let at = k.accepts in
     subst (λ q. IsRunOfEveryOrder text q groups bytes status) (one input a.0 p at.gives g)
-    (λ codes. same_run text groups a.0 codes (λ n. law a.0 at.program at.free n codes (zero_state a.0) (zero a.0 at.program)) bytes status k.runs)
+    (λ codes. same_run text groups a.0 codes (λ n. law a.0 at.program at.free n codes (zero_state a.0) (zero a.0 at.program)) bytes status
+    k.runs)
 
 -- The command runs this number of groups of what it reads.
-each_order_of : FreeIsRobust → ZeroIsStart → GivesOne as_either → (c : Command) (groups : ℕ) (ws : List WatchState) (input bytes : List ℕ) (status : Status) → groups_of c ≡ Some groups → TellsAccepted status c → IsCommandOutput c ws input bytes status
+each_order_of : FreeIsRobust → ZeroIsStart → GivesOne as_either
+    → (c : Command) (groups : ℕ) (ws : List WatchState) (input bytes : List ℕ) (status : Status) → groups_of c ≡ Some groups
+    → TellsAccepted status c → IsCommandOutput c ws input bytes status
     → (p : Program) → as_either.Gives input p → IsRunOfEveryOrder (printing_of c ws) p groups bytes status
 each_order_of law zero one (Run n) groups ws input bytes status is t o p g =
     let same : n ≡ groups = cc in
-    subst (λ k. IsRunOfEveryOrder state_after p k bytes status) same (each_order law zero one state_after n input bytes status (ran status (Run n) t) o p g)
+    subst (λ k. IsRunOfEveryOrder state_after p k bytes status) same
+    (each_order law zero one state_after n input bytes status (ran status (Run n) t) o p g)
 each_order_of law zero one (Watch n) groups ws input bytes status is t o p g =
     let same : n ≡ groups = cc in
-    subst (λ k. IsRunOfEveryOrder (watch_text ws) p k bytes status) same (each_order law zero one (watch_text ws) n input bytes status (ran status (Watch n) t) o p g)
+    subst (λ k. IsRunOfEveryOrder (watch_text ws) p k bytes status) same
+    (each_order law zero one (watch_text ws) n input bytes status (ran status (Watch n) t) o p g)
 each_order_of law zero one (Trace first count) groups ws input bytes status is t o p g =
     let same : first + count ≡ groups = cc in
-    subst (λ k. IsRunOfEveryOrder (trace_text first count) p k bytes status) same (each_order law zero one (trace_text first count) (first + count) input bytes status (ran status (Trace first count) t) o p g)
+    subst (λ k. IsRunOfEveryOrder (trace_text first count) p k bytes status) same
+    (each_order law zero one (trace_text first count) (first + count) input bytes status (ran status (Trace first count) t) o p g)
 each_order_of law zero one c groups ws input bytes status is t o p g = cc
 
 -- The promise, of arguments and an input.
@@ -119,17 +138,22 @@ Promises arguments status input =
 
 abbrev pub RunsInEachOrder : List (List ℕ) → List WatchState → Option (List ℕ) → Option (List ℕ) → Status → List ℕ → Type 0
 RunsInEachOrder arguments ws old new status input =
-    (c : Command) (groups : ℕ) → command_of arguments ≡ Some c → groups_of c ≡ Some groups → TellsAccepted status c → (p : Program) → as_either.Gives input p → GivesRunOfEveryOrder (printing_of c ws) p groups old new status
+    (c : Command) (groups : ℕ) → command_of arguments ≡ Some c → groups_of c ≡ Some groups → TellsAccepted status c → (p : Program)
+    → as_either.Gives input p → GivesRunOfEveryOrder (printing_of c ws) p groups old new status
 
-pub promised : FreeIsRobust → GivesOne as_either → OnePlaced → (arguments : List (List ℕ)) (c : Command) (ws : List WatchState) (left : Option (List ℕ)) (input bytes : List ℕ) (status : Status) → command_of arguments ≡ Some c → IfSome left (IsReadOf c input)
+pub promised : FreeIsRobust → GivesOne as_either → OnePlaced → (arguments : List (List ℕ)) (c : Command) (ws : List WatchState)
+    (left : Option (List ℕ)) (input bytes : List ℕ) (status : Status) → command_of arguments ≡ Some c → IfSome left (IsReadOf c input)
     → IsCommandOutput c ws input bytes status → IfSome left (Promises arguments status)
 promised law one placed arguments c ws None input bytes status e whole o = tt
 promised law one placed arguments c ws (Some l) input bytes status e whole o =
     λ d f t p g.
     let is = same_command arguments d c f e in
-    robust_program law one placed status c ws l input bytes (subst (TellsAccepted status) is t) whole o p (subst (λ k. IsProgramOf k l p) is g)
+    robust_program law one placed status c ws l input bytes (subst (TellsAccepted status) is t) whole o p
+    (subst (λ k. IsProgramOf k l p) is g)
 
-pub run_in_each_order : FreeIsRobust → ZeroIsStart → GivesOne as_either → (arguments : List (List ℕ)) (c : Command) (ws : List WatchState) (left old new : Option (List ℕ)) (input bytes : List ℕ) (status : Status) → command_of arguments ≡ Some c → IfSome left (IsReadOf c input)
+pub run_in_each_order : FreeIsRobust → ZeroIsStart → GivesOne as_either
+    → (arguments : List (List ℕ)) (c : Command) (ws : List WatchState) (left old new : Option (List ℕ)) (input bytes : List ℕ)
+    (status : Status) → command_of arguments ≡ Some c → IfSome left (IsReadOf c input)
     → IsCommandOutput c ws input bytes status → Appends old new bytes → IfSome left (RunsInEachOrder arguments ws old new status)
 run_in_each_order law zero one arguments c ws None old new input bytes status e whole o appended = tt
 run_in_each_order law zero one arguments c ws (Some l) old new input bytes status e whole o appended =
@@ -138,7 +162,8 @@ run_in_each_order law zero one arguments c ws (Some l) old new input bytes statu
       appended,
       let is = same_command arguments c d e f in
           let read : input ≡ l = run_whole d groups input l runs (subst (λ k. IsReadOf k input l) is whole) in
-          each_order_of law zero one d groups ws input bytes status runs t (subst (λ k. IsCommandOutput k ws input bytes status) is o) p (subst (λ i. as_either.Gives i p) (sym read) g),
+          each_order_of law zero one d groups ws input bytes status runs t (subst (λ k. IsCommandOutput k ws input bytes status) is o) p
+          (subst (λ i. as_either.Gives i p) (sym read) g),
     )
 
 -- An input that is too long tells nothing of its program.
@@ -146,6 +171,7 @@ pub promised_beyond : (arguments : List (List ℕ)) (left : Option (List ℕ)) �
 promised_beyond arguments None = tt
 promised_beyond arguments (Some l) = λ c f t p g. absurd t
 
-pub runs_beyond : (arguments : List (List ℕ)) (ws : List WatchState) (left old new : Option (List ℕ)) → IfSome left (RunsInEachOrder arguments ws old new TooLong)
+pub runs_beyond : (arguments : List (List ℕ)) (ws : List WatchState) (left old new : Option (List ℕ))
+    → IfSome left (RunsInEachOrder arguments ws old new TooLong)
 runs_beyond arguments ws None old new = tt
 runs_beyond arguments ws (Some l) old new = λ c groups f runs t p g. absurd t

@@ -61,12 +61,15 @@ IsTold r Tells input bytes status =
 -- What holds of each program that it is told of holds of what the input is read as.
 pub holds_where_told : (r : InputReading) (Tells : Program → List ℕ → Status → Type 0) (P : Program → Status → Type 0)
     → ((p : Program) (bytes : List ℕ) (status : Status) → Tells p bytes status → P p status)
-    → GivesOne r → RefusesNone r → (input bytes : List ℕ) (status : Status) → IsTold r Tells input bytes status → (p : Program) → r.Gives input p → P p status
-holds_where_told r Tells P holds one none input bytes status (inl t) p g = subst (λ x. P x status) (one input t.0 p t.1 g) (holds t.0 bytes status t.2)
+    → GivesOne r → RefusesNone r → (input bytes : List ℕ) (status : Status) → IsTold r Tells input bytes status → (p : Program)
+    → r.Gives input p → P p status
+holds_where_told r Tells P holds one none input bytes status (inl t) p g =
+    subst (λ x. P x status) (one input t.0 p t.1 g) (holds t.0 bytes status t.2)
 holds_where_told r Tells P holds one none input bytes status (inr t) p g = absurd (none input p bytes g t.0)
 
 -- The output of a refusal.
-pub is_refusal : (r : InputReading) (Makes : Program → List ℕ → Type 0) (input bytes : List ℕ) (status : Status) → r.Refuses input bytes → status ≡ Refused
+pub is_refusal : (r : InputReading) (Makes : Program → List ℕ → Type 0) (input bytes : List ℕ) (status : Status) → r.Refuses input bytes
+    → status ≡ Refused
     → IsMadeOutput r Makes input bytes status
 is_refusal r Makes input bytes status refused e = subst (IsMadeOutput r Makes input bytes) (sym e) refused
 

@@ -35,18 +35,25 @@ abbrev pub IsRunAnswer : Printing → ℕ → Program → List ℕ → Status �
 IsRunAnswer text groups p bytes status = IsRunOf text p groups bytes status ⊎ IsJudgedViolated p bytes status
 
 -- The end of the run tells the row of its status.
-by_end : (text : Printing) (groups : ℕ) (r : InputReading) (input : List ℕ) (p : Program) (bytes : List ℕ) (status : Status) (e : End) → r.Gives input p → status ≡ end_status e → IsRunOf text p groups bytes status → IsRunAs text groups r input bytes status
-by_end text groups r input p bytes status (end.Break imm place) g is = subst (λ s. IsRunOf text p groups bytes s → IsRunAs text groups r input bytes s) (sym is) (λ o. (p, g, o))
-by_end text groups r input p bytes status (end.Limit place) g is = subst (λ s. IsRunOf text p groups bytes s → IsRunAs text groups r input bytes s) (sym is) (λ o. (p, g, o))
-by_end text groups r input p bytes status (end.Fault kind place) g is = subst (λ s. IsRunOf text p groups bytes s → IsRunAs text groups r input bytes s) (sym is) (λ o. (p, g, o))
+by_end : (text : Printing) (groups : ℕ) (r : InputReading) (input : List ℕ) (p : Program) (bytes : List ℕ) (status : Status) (e : End)
+    → r.Gives input p → status ≡ end_status e → IsRunOf text p groups bytes status → IsRunAs text groups r input bytes status
+by_end text groups r input p bytes status (end.Break imm place) g is =
+    subst (λ s. IsRunOf text p groups bytes s → IsRunAs text groups r input bytes s) (sym is) (λ o. (p, g, o))
+by_end text groups r input p bytes status (end.Limit place) g is =
+    subst (λ s. IsRunOf text p groups bytes s → IsRunAs text groups r input bytes s) (sym is) (λ o. (p, g, o))
+by_end text groups r input p bytes status (end.Fault kind place) g is =
+    subst (λ s. IsRunOf text p groups bytes s → IsRunAs text groups r input bytes s) (sym is) (λ o. (p, g, o))
 
 -- The answer of the program that an input is read as is that of the input.
-pub run_of_program : (text : Printing) (groups : ℕ) (r : InputReading) (input : List ℕ) (p : Program) (bytes : List ℕ) (status : Status) → r.Gives input p → IsRunOf text p groups bytes status ⊎ IsJudgedViolated p bytes status → IsRunAs text groups r input bytes status
+pub run_of_program : (text : Printing) (groups : ℕ) (r : InputReading) (input : List ℕ) (p : Program) (bytes : List ℕ) (status : Status)
+    → r.Gives input p → IsRunOf text p groups bytes status ⊎ IsJudgedViolated p bytes status → IsRunAs text groups r input bytes status
 run_of_program text groups r input p bytes status g (inl o) = by_end text groups r input p bytes status (run_of p groups).end g o.ends o
-run_of_program text groups r input p bytes status g (inr o) = subst (λ s. IsJudgement p bytes s → IsRunAs text groups r input bytes s) (sym o.1) (λ j. (p, g, j)) o.0
+run_of_program text groups r input p bytes status g (inr o) =
+    subst (λ s. IsJudgement p bytes s → IsRunAs text groups r input bytes s) (sym o.1) (λ j. (p, g, j)) o.0
 
 -- Each row tells the answer of the program, or the refusal.
-pub told_of_run : (text : Printing) (groups : ℕ) (r : InputReading) (input bytes : List ℕ) (status : Status) → IsRunAs text groups r input bytes status → IsTold r (IsRunAnswer text groups) input bytes status
+pub told_of_run : (text : Printing) (groups : ℕ) (r : InputReading) (input bytes : List ℕ) (status : Status)
+    → IsRunAs text groups r input bytes status → IsTold r (IsRunAnswer text groups) input bytes status
 told_of_run text groups r input bytes Done o = inl (o.0, o.1, inl o.2)
 told_of_run text groups r input bytes Violated o = inl (o.0, o.1, inr (o.2, refl))
 told_of_run text groups r input bytes Limit o = inl (o.0, o.1, inl o.2)
@@ -60,78 +67,104 @@ not_violated (end.Break imm place) is = cc
 not_violated (end.Limit place) is = cc
 not_violated (end.Fault kind place) is = cc
 
-violated_of_answer : (text : Printing) (groups : ℕ) (p : Program) (bytes : List ℕ) (status : Status) → IsRunAnswer text groups p bytes status → ((status ≡ Violated) ↔ (¬ HasNoViolation p))
-violated_of_answer text groups p bytes status (inl o) = (λ e. absurd (not_violated (run_of p groups).end (sym o.ends ∙ e)), λ n. absurd (n o.free))
+violated_of_answer : (text : Printing) (groups : ℕ) (p : Program) (bytes : List ℕ) (status : Status)
+    → IsRunAnswer text groups p bytes status → ((status ≡ Violated) ↔ (¬ HasNoViolation p))
+violated_of_answer text groups p bytes status (inl o) =
+    (λ e. absurd (not_violated (run_of p groups).end (sym o.ends ∙ e)), λ n. absurd (n o.free))
 violated_of_answer text groups p bytes status (inr o) = violated_of_judgement p bytes status o.0
 
 -- The end of the run tells the status of a program that is free.
-end_of_answer : (text : Printing) (groups : ℕ) (p : Program) (bytes : List ℕ) (status : Status) → IsRunAnswer text groups p bytes status → HasNoViolation p → status ≡ end_status (run_of p groups).end
+end_of_answer : (text : Printing) (groups : ℕ) (p : Program) (bytes : List ℕ) (status : Status) → IsRunAnswer text groups p bytes status
+    → HasNoViolation p → status ≡ end_status (run_of p groups).end
 end_of_answer text groups p bytes status (inl o) free = o.ends
 end_of_answer text groups p bytes status (inr o) free = absurd ((violated_of_judgement p bytes status o.0).0 o.1 free)
 
-status_of_run : (text : Printing) (groups : ℕ) (r : InputReading) → GivesOne r → RefusesNone r → (input bytes : List ℕ) (status : Status) → IsRunAs text groups r input bytes status
+status_of_run : (text : Printing) (groups : ℕ) (r : InputReading) → GivesOne r → RefusesNone r → (input bytes : List ℕ) (status : Status)
+    → IsRunAs text groups r input bytes status
     → (p : Program) → r.Gives input p → HasNoViolation p → status ≡ end_status (run_of p groups).end
 status_of_run text groups r one none input bytes status o =
-    holds_where_told r (IsRunAnswer text groups) (λ p s. HasNoViolation p → s ≡ end_status (run_of p groups).end) (end_of_answer text groups) one none input bytes status (told_of_run text groups r input bytes status o)
+    holds_where_told r (IsRunAnswer text groups) (λ p s. HasNoViolation p → s ≡ end_status (run_of p groups).end)
+    (end_of_answer text groups) one none input bytes status (told_of_run text groups r input bytes status o)
 
 -- `Violated` is the answer exactly where the program isn't free
-run_violated_where_not_free : (text : Printing) (groups : ℕ) (r : InputReading) → GivesOne r → RefusesNone r → (input bytes : List ℕ) (status : Status) → IsRunAs text groups r input bytes status
+run_violated_where_not_free : (text : Printing) (groups : ℕ) (r : InputReading) → GivesOne r → RefusesNone r
+    → (input bytes : List ℕ) (status : Status) → IsRunAs text groups r input bytes status
     → (p : Program) → r.Gives input p → ((status ≡ Violated) ↔ (¬ HasNoViolation p))
 run_violated_where_not_free text groups r one none input bytes status o =
-    holds_where_told r (IsRunAnswer text groups) (λ p s. (s ≡ Violated) ↔ (¬ HasNoViolation p)) (violated_of_answer text groups) one none input bytes status (told_of_run text groups r input bytes status o)
+    holds_where_told r (IsRunAnswer text groups) (λ p s. (s ≡ Violated) ↔ (¬ HasNoViolation p))
+    (violated_of_answer text groups) one none input bytes status (told_of_run text groups r input bytes status o)
 
-pub run_is : (text : Printing) (groups : ℕ) (r : InputReading) (input : List ℕ) (p : Program) (bytes : List ℕ) (status : Status) → r.Gives input p → IsRunOf text p groups bytes status → IsRunAs text groups r input bytes status
+pub run_is : (text : Printing) (groups : ℕ) (r : InputReading) (input : List ℕ) (p : Program) (bytes : List ℕ) (status : Status)
+    → r.Gives input p → IsRunOf text p groups bytes status → IsRunAs text groups r input bytes status
 run_is text groups r input p bytes status gives o = run_of_program text groups r input p bytes status gives (inl o)
 
 -- A run under way that has come so far prints the run, and ends as it does.
 same_text : (e f : End) (g h : ℕ) (r q : Rse) (s t : State) → e ≡ f → g ≡ h → r ≡ q → s ≡ t → state_text e g r s ≡ state_text f h q t
 same_text e f g h r q s t ef gh rq st = rw (ef, gh, rq, st) refl
 
-has_run : ProgressIsRun → (groups : ℕ) (p : Program) (m : Progress) → IsProgram p → m ≡ groups_further groups p (begun (zero_state p)) → HasRun m (run_of p groups)
-has_run run groups p m program came = subst (λ x. HasRun x (run_of p groups)) (sym came) (run groups p (zero_state p) program (zero_is_place p program))
+has_run : ProgressIsRun → (groups : ℕ) (p : Program) (m : Progress) → IsProgram p → m ≡ groups_further groups p (begun (zero_state p))
+    → HasRun m (run_of p groups)
+has_run run groups p m program came =
+    subst (λ x. HasRun x (run_of p groups)) (sym came) (run groups p (zero_state p) program (zero_is_place p program))
 
-pub text_of_progress : ProgressIsRun → (groups : ℕ) (p : Program) (m : Progress) (e : End) → IsProgram p → m ≡ groups_further groups p (begun (zero_state p)) → e ≡ end_of m
+pub text_of_progress : ProgressIsRun → (groups : ℕ) (p : Program) (m : Progress) (e : End) → IsProgram p
+    → m ≡ groups_further groups p (begun (zero_state p)) → e ≡ end_of m
     → state_text e m.groups m.range m.state ≡ run_text (run_of p groups)
 text_of_progress run groups p m e program came ends =
     let has = has_run run groups p m program came in same_text _ _ _ _ _ _ _ _ (ends ∙ has.end) has.groups has.range has.state
 
-pub run_of_progress : ProgressIsRun → (text : Printing) (groups : ℕ) (p : Program) (m : Progress) (e : End) (bytes : List ℕ) (status : Status) → IsProgram p → HasNoViolation p → IsRobust p → m ≡ groups_further groups p (begun (zero_state p)) → e ≡ end_of m
+pub run_of_progress : ProgressIsRun → (text : Printing) (groups : ℕ) (p : Program) (m : Progress) (e : End) (bytes : List ℕ)
+    (status : Status) → IsProgram p → HasNoViolation p → IsRobust p → m ≡ groups_further groups p (begun (zero_state p)) → e ≡ end_of m
     → bytes ≡ text (run_of p) groups → status ≡ end_status e → IsRunOf text p groups bytes status
 run_of_progress run text groups p m e bytes status program free robust came ends printed answered =
     let has = has_run run groups p m program came in
     record { program = program; free = free; robust = robust; printed = printed; ends = answered ∙ ap end_status (ends ∙ has.end) }
 
 -- Of the program that was read the watchers have seen the run, and no other program is read.
-pub have_watched : GivesOne as_either → (groups : ℕ) (input : List ℕ) (p : Program) (old now : List WatchState) → as_either.Gives input p → now ≡ staying (run_of p groups).events old → HaveWatched groups input old now
-have_watched one groups input p old now gives is q given free = subst (λ x. now ≡ staying (run_of x groups).events old) (one input p q gives given) is
+pub have_watched : GivesOne as_either → (groups : ℕ) (input : List ℕ) (p : Program) (old now : List WatchState) → as_either.Gives input p
+    → now ≡ staying (run_of p groups).events old → HaveWatched groups input old now
+have_watched one groups input p old now gives is q given free =
+    subst (λ x. now ≡ staying (run_of x groups).events old) (one input p q gives given) is
 
 -- What is refused, or has violations, is read as no accepted program.
-pub refused_not_run : RefusesNone as_either → (input bytes : List ℕ) (status : Status) → IsRefusal as_either input bytes status → IsNotRun input
+pub refused_not_run : RefusesNone as_either → (input bytes : List ℕ) (status : Status) → IsRefusal as_either input bytes status
+    → IsNotRun input
 refused_not_run none input bytes status refused p gives free = none input p bytes gives refused.0
 
-pub violated_not_run : GivesOne as_either → (input : List ℕ) (q : Program) (bytes : List ℕ) (status : Status) → as_either.Gives input q → IsJudgedViolated q bytes status → IsNotRun input
+pub violated_not_run : GivesOne as_either → (input : List ℕ) (q : Program) (bytes : List ℕ) (status : Status) → as_either.Gives input q
+    → IsJudgedViolated q bytes status → IsNotRun input
 violated_not_run one input q bytes status gives judged p given free =
     (violated_of_judgement q bytes status judged.0).0 judged.1 (subst HasNoViolation (one input p q given gives) free)
 
 -- What is told of the program that a command reads.
-pub accepted_of : GivesOne as_either → RefusesNone as_either → (c : Command) (ws : List WatchState) (input bytes : List ℕ) (status : Status) → IsCommandOutput c ws input bytes status
+pub accepted_of : GivesOne as_either → RefusesNone as_either → (c : Command) (ws : List WatchState) (input bytes : List ℕ) (status : Status)
+    → IsCommandOutput c ws input bytes status
     → c ≡ command.Check → (p : Program) → as_either.Gives input p → ((status ≡ Done) ↔ HasNoViolation p)
-accepted_of one none c ws input bytes status o is = done_where_free as_either one none input bytes status (subst (λ k. IsCommandOutput k ws input bytes status) is o)
+accepted_of one none c ws input bytes status o is =
+    done_where_free as_either one none input bytes status (subst (λ k. IsCommandOutput k ws input bytes status) is o)
 
-pub judged_of : GivesOne as_either → RefusesNone as_either → (c : Command) (ws : List WatchState) (input bytes : List ℕ) (status : Status) → IsCommandOutput c ws input bytes status
+pub judged_of : GivesOne as_either → RefusesNone as_either → (c : Command) (ws : List WatchState) (input bytes : List ℕ) (status : Status)
+    → IsCommandOutput c ws input bytes status
     → Judges c → (p : Program) → as_either.Gives input p → ((status ≡ Violated) ↔ (¬ HasNoViolation p))
 judged_of one none command.Check ws input bytes status o judges = violated_where_not_free as_either one none input bytes status o
-judged_of one none (command.Run groups) ws input bytes status o judges = run_violated_where_not_free state_after groups as_either one none input bytes status o
-judged_of one none (command.Watch groups) ws input bytes status o judges = run_violated_where_not_free (watch_text ws) groups as_either one none input bytes status o
-judged_of one none (command.Trace first count) ws input bytes status o judges = run_violated_where_not_free (trace_text first count) (first + count) as_either one none input bytes status o
+judged_of one none (command.Run groups) ws input bytes status o judges =
+    run_violated_where_not_free state_after groups as_either one none input bytes status o
+judged_of one none (command.Watch groups) ws input bytes status o judges =
+    run_violated_where_not_free (watch_text ws) groups as_either one none input bytes status o
+judged_of one none (command.Trace first count) ws input bytes status o judges =
+    run_violated_where_not_free (trace_text first count) (first + count) as_either one none input bytes status o
 judged_of one none c ws input bytes status o judges = absurd judges
 
-pub ended_of : GivesOne as_either → RefusesNone as_either → (c : Command) (ws : List WatchState) (input bytes : List ℕ) (status : Status) → IsCommandOutput c ws input bytes status
-    → (groups : ℕ) → groups_of c ≡ Some groups → (p : Program) → as_either.Gives input p → HasNoViolation p → status ≡ end_status (run_of p groups).end
+pub ended_of : GivesOne as_either → RefusesNone as_either → (c : Command) (ws : List WatchState) (input bytes : List ℕ) (status : Status)
+    → IsCommandOutput c ws input bytes status
+    → (groups : ℕ) → groups_of c ≡ Some groups → (p : Program) → as_either.Gives input p → HasNoViolation p
+    → status ≡ end_status (run_of p groups).end
 ended_of one none (command.Run n) ws input bytes status o groups runs p gives free =
-    status_of_run state_after n as_either one none input bytes status o p gives free ∙ ap (λ k. end_status (run_of p k).end) (same_Some n groups runs)
+    status_of_run state_after n as_either one none input bytes status o p gives free
+    ∙ ap (λ k. end_status (run_of p k).end) (same_Some n groups runs)
 ended_of one none (command.Watch n) ws input bytes status o groups runs p gives free =
-    status_of_run (watch_text ws) n as_either one none input bytes status o p gives free ∙ ap (λ k. end_status (run_of p k).end) (same_Some n groups runs)
+    status_of_run (watch_text ws) n as_either one none input bytes status o p gives free
+    ∙ ap (λ k. end_status (run_of p k).end) (same_Some n groups runs)
 ended_of one none (command.Trace first count) ws input bytes status o groups runs p gives free =
     status_of_run (trace_text first count) (first + count) as_either one none input bytes status o p gives free
     ∙ ap (λ k. end_status (run_of p k).end) (same_Some (first + count) groups runs)

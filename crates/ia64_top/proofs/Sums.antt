@@ -12,7 +12,8 @@ use Rattle.ia64_top.specs.Trials.{value_of}
 abbrev pub sum_of : Registers → ℕ → ℕ
 sum_of r count = sum_by value_of (map (look r) (range_with_len 8 count)) % 2 ^ 64
 
-pub one_register_more : (r : Registers) (n sum new : ℕ) → 8 ≤ n → sum ≡ sum_of r (n - 8) → new ≡ (sum + value_of (look r n)) % 2 ^ 64 → new ≡ sum_of r (n + 1 - 8)
+pub one_register_more : (r : Registers) (n sum new : ℕ) → 8 ≤ n → sum ≡ sum_of r (n - 8) → new ≡ (sum + value_of (look r n)) % 2 ^ 64
+    → new ≡ sum_of r (n + 1 - 8)
 one_register_more r n sum new least before after =
     let next : n - 8 + 1 ≡ n + 1 - 8 = omega (arith, least) in
     let total : ℕ = sum_by value_of (map (look r) (range_with_len 8 (n - 8))) in

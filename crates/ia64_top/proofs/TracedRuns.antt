@@ -29,17 +29,20 @@ add_up zero more p m = let none : 0 + more ≡ more = omega arith in rw none ref
 add_up (suc n) more p m = let one : suc n + more ≡ suc (n + more) = omega arith in rw one (add_up n more p (group_further p m))
 
 -- Of a run that goes on the events are that of the next group and then the others; of one that has ended there are none.
-opens : (n : ℕ) (p : Program) (m : Progress) → m.end ≡ None → events_further (suc n) p m ≡ event_further p m ∷ events_further n p (group_further p m)
+opens : (n : ℕ) (p : Program) (m : Progress) → m.end ≡ None → events_further (suc n) p m
+    ≡ event_further p m ∷ events_further n p (group_further p m)
 opens n p m running = rw running refl
 
 none_opens : (n : ℕ) (p : Program) (m : Progress) (e : End) → m.end ≡ Some e → events_further (suc n) p m ≡ []
 none_opens n p m e is = rw is refl
 
 -- The events of n + 1 groups are those of n, and then that of the next one.
-one_event_more : (n : ℕ) (p : Program) (m : Progress) → events_further (suc n) p m ≡ events_further n p m ++ events_further 1 p (groups_further n p m)
+one_event_more : (n : ℕ) (p : Program) (m : Progress) → events_further (suc n) p m
+    ≡ events_further n p m ++ events_further 1 p (groups_further n p m)
 one_event_more n p m = by_end m.end n m refl
   where
-    by_end : (e : Option End) (n : ℕ) (m : Progress) → m.end ≡ e → events_further (suc n) p m ≡ events_further n p m ++ events_further 1 p (groups_further n p m)
+    by_end : (e : Option End) (n : ℕ) (m : Progress) → m.end ≡ e → events_further (suc n) p m
+        ≡ events_further n p m ++ events_further 1 p (groups_further n p m)
     by_end e zero m is = refl
     by_end (Some e) (suc n) m is = rw (groups_ended (suc n) p m e is, is) refl
     by_end None (suc n) m is =
@@ -68,24 +71,32 @@ none_told (suc n) p m e is =
     ∙ none_told n p m e is
 
 -- What is printed of a run under way is what is printed of the whole runs.
-same_group : (es : List GroupEvent) (m : Progress) (run : Run) → told m ≡ run_text run → group_told es m ≡ flat_map (λ event. line (event_text event) ++ run_text run) es
+same_group : (es : List GroupEvent) (m : Progress) (run : Run) → told m ≡ run_text run
+    → group_told es m ≡ flat_map (λ event. line (event_text event) ++ run_text run) es
 same_group es m run same = ap (λ text. flat_map (λ event. line (event_text event) ++ text) es) same
 
-further_is : EventsAreOfRun → (k : ℕ) (p : Program) → IsProgram p → further_events (run_of p) k ≡ events_further 1 p (groups_further k p (begun (zero_state p)))
+further_is : EventsAreOfRun → (k : ℕ) (p : Program) → IsProgram p
+    → further_events (run_of p) k ≡ events_further 1 p (groups_further k p (begun (zero_state p)))
 further_is events k p program =
-    let now : (run_of p k).events ≡ events_further k p (begun (zero_state p)) = sym (events k p (zero_state p) program (zero_is_place p program)) in
-    let next : (run_of p (suc k)).events ≡ events_further (suc k) p (begun (zero_state p)) = sym (events (suc k) p (zero_state p) program (zero_is_place p program)) in
-    rw (now, next, one_event_more k p (begun (zero_state p))) (drop-append_seam (events_further k p (begun (zero_state p))) (events_further 1 p (groups_further k p (begun (zero_state p)))))
+    let now : (run_of p k).events ≡ events_further k p (begun (zero_state p)) =
+    sym (events k p (zero_state p) program (zero_is_place p program)) in
+    let next : (run_of p (suc k)).events ≡ events_further (suc k) p (begun (zero_state p)) =
+    sym (events (suc k) p (zero_state p) program (zero_is_place p program)) in
+    rw (now, next, one_event_more k p (begun (zero_state p))) (drop-append_seam (events_further k p (begun (zero_state p)))
+    (events_further 1 p (groups_further k p (begun (zero_state p)))))
 
 state_told : ProgressIsRun → (k : ℕ) (p : Program) → IsProgram p → told (groups_further k p (begun (zero_state p))) ≡ run_text (run_of p k)
 state_told run k p program = text_of_progress run k p (groups_further k p (begun (zero_state p))) _ program refl refl
 
-groups_are_told : ProgressIsRun → EventsAreOfRun → (more k : ℕ) (p : Program) → IsProgram p → groups_told more p (groups_further k p (begun (zero_state p))) ≡ traced_groups (run_of p) k more
+groups_are_told : ProgressIsRun → EventsAreOfRun → (more k : ℕ) (p : Program) → IsProgram p
+    → groups_told more p (groups_further k p (begun (zero_state p))) ≡ traced_groups (run_of p) k more
 groups_are_told run events zero k p program = refl
 groups_are_told run events (suc more) k p program =
     let next = one_more k p (begun (zero_state p)) in
     rw (sym next, further_is events k p program, sym (groups_are_told run events more (suc k) p program))
-    (ap (λ text. text ++ groups_told more p (groups_further (suc k) p (begun (zero_state p)))) (same_group (events_further 1 p (groups_further k p (begun (zero_state p)))) (groups_further (suc k) p (begun (zero_state p))) (run_of p (suc k)) (state_told run (suc k) p program)))
+    (ap (λ text. text ++ groups_told more p (groups_further (suc k) p (begun (zero_state p))))
+    (same_group (events_further 1 p (groups_further k p (begun (zero_state p)))) (groups_further (suc k) p (begun (zero_state p)))
+    (run_of p (suc k)) (state_told run (suc k) p program)))
 
 -- The machine has n groups left, and this is the text that it is to print.
 pub record IsTraced (p : Program) (groups : ℕ) (text : List ℕ) (now : Execution) (left : ℕ) (bytes : List ℕ) : Type 0 where
@@ -105,15 +116,18 @@ abbrev pub machine_after : ℕ → Program → Execution
 machine_after first p = record { program = p; progress = groups_further first p (begun (zero_state p)) }
 
 pub starts : (p : Program) (first : ℕ) (opened now : Execution) → opened ≡ machine_after 0 p
-    → (now ≡ record opened { progress = groups_further first opened.program opened.progress }) ⊎ ((first ≡ 0) × (now ≡ opened)) → now ≡ machine_after first p
+    → (now ≡ record opened { progress = groups_further first opened.program opened.progress }) ⊎ ((first ≡ 0) × (now ≡ opened))
+    → now ≡ machine_after first p
 starts p first opened now is (inl ran) = ran ∙ ap (λ (m : Execution). record m { progress = groups_further first m.program m.progress }) is
 starts p first opened now is (inr none) = rw none.0 (none.1 ∙ is)
 
-pub begins : ProgressIsRun → EventsAreOfRun → (p : Program) (first count : ℕ) (m : Execution) (bytes : List ℕ) → IsProgram p → m ≡ machine_after first p → first + count < 2 ^ 64 → bytes ≡ told m.progress
+pub begins : ProgressIsRun → EventsAreOfRun → (p : Program) (first count : ℕ) (m : Execution) (bytes : List ℕ) → IsProgram p
+    → m ≡ machine_after first p → first + count < 2 ^ 64 → bytes ≡ told m.progress
     → IsTraced p (first + count) (trace_text first count (run_of p) (first + count)) m count bytes
 begins run events p first count m bytes program is few printed =
     let came : m.progress ≡ groups_further first p (begun (zero_state p)) = ap (λ (x : Execution). x.progress) is in
-    let began : m.progress.groups ≤ 0 + first = subst (λ (x : Progress). x.groups ≤ 0 + first) (sym came) (few_groups first p (begun (zero_state p))) in
+    let began : m.progress.groups ≤ 0 + first =
+    subst (λ (x : Progress). x.groups ≤ 0 + first) (sym came) (few_groups first p (begun (zero_state p))) in
     record {
       program = ap (λ (x : Execution). x.program) is;
       few = omega (arith, began, few);
@@ -122,30 +136,38 @@ begins run events p first count m bytes program is few printed =
     }
 
 -- The next group, and then the rest.
-told_on : (left : ℕ) (p : Program) (m : Progress) → 0 < left → m.end ≡ None → groups_told left p m ≡ line (event_text (event_further p m)) ++ told (group_further p m) ++ groups_told (left - 1) p (group_further p m)
+told_on : (left : ℕ) (p : Program) (m : Progress) → 0 < left → m.end ≡ None
+    → groups_told left p m ≡ line (event_text (event_further p m)) ++ told (group_further p m) ++ groups_told (left - 1) p
+    (group_further p m)
 told_on zero p m some running = absurd (omega (arith, some))
 told_on (suc n) p m some running =
     let less : suc n - 1 ≡ n = omega arith in
     rw less
     (ap (λ es. group_told es (group_further p m) ++ groups_told n p (group_further p m)) (opens 0 p m running)
-    ∙ ap (λ text. text ++ groups_told n p (group_further p m)) (append-nil (line (event_text (event_further p m)) ++ told (group_further p m))))
+    ∙ ap (λ text. text ++ groups_told n p (group_further p m)) (append-nil
+    (line (event_text (event_further p m)) ++ told (group_further p m))))
 
 told_before : (bytes event state rest : List ℕ) → bytes ++ event ++ state ++ rest ≡ bytes ++ (event ++ state ++ rest)
 told_before bytes event state rest = ap (λ text. text ++ rest) (append_assoc bytes event state) ∙ append_assoc bytes (event ++ state) rest
 
 pub goes_on : (p : Program) (groups : ℕ) (text : List ℕ) (now next : Execution) (left : ℕ) (bytes lined printed : List ℕ) (e : GroupEvent)
-    → IsTraced p groups text now left bytes → 0 < left → now.progress.end ≡ None → next ≡ record now { progress = group_further now.program now.progress } → e ≡ event_further now.program now.progress
+    → IsTraced p groups text now left bytes → 0 < left → now.progress.end ≡ None
+    → next ≡ record now { progress = group_further now.program now.progress } → e ≡ event_further now.program now.progress
     → lined ≡ bytes ++ line (event_text e) → printed ≡ lined ++ told next.progress → IsTraced p groups text next (left - 1) printed
 goes_on p groups text now next left bytes lined printed e t some running is_next is_event with_event with_state =
     let its : next.program ≡ p = ap (λ (x : Execution). x.program) is_next ∙ t.program in
-    let came : next.progress ≡ group_further p now.progress = ap (λ (x : Execution). x.progress) is_next ∙ ap (λ q. group_further q now.progress) t.program in
+    let came : next.progress ≡ group_further p now.progress =
+    ap (λ (x : Execution). x.progress) is_next ∙ ap (λ q. group_further q now.progress) t.program in
     let event : e ≡ event_further p now.progress = is_event ∙ ap (λ q. event_further q now.progress) t.program in
-    let more : next.progress.groups ≤ now.progress.groups + 1 = subst (λ (x : Progress). x.groups ≤ now.progress.groups + 1) (sym came) (one_group p now.progress) in
+    let more : next.progress.groups ≤ now.progress.groups + 1 =
+    subst (λ (x : Progress). x.groups ≤ now.progress.groups + 1) (sym came) (one_group p now.progress) in
     record {
       program = its;
       few = omega (arith, more, some, t.few);
       rest = over_groups p now.progress next.progress left some came ∙ t.rest;
-      printed = rw (with_state, with_event, event, came) (told_before bytes (line (event_text (event_further p now.progress))) (told (group_further p now.progress)) (groups_told (left - 1) p (group_further p now.progress))
+      printed =
+          rw (with_state, with_event, event, came) (told_before bytes (line (event_text (event_further p now.progress)))
+          (told (group_further p now.progress)) (groups_told (left - 1) p (group_further p now.progress))
           ∙ ap (λ rest. bytes ++ rest) (sym (told_on left p now.progress some running)) ∙ t.printed);
     }
 
@@ -158,7 +180,8 @@ nothing_told : (left : ℕ) (p : Program) (m : Progress) → (left ≡ 0) ⊎ ((
 nothing_told left p m (inl none) = rw none refl
 nothing_told left p m (inr over) = none_told left p m over.0 over.1
 
-pub comes_to_end : (p : Program) (groups : ℕ) (text : List ℕ) (now : Execution) (left : ℕ) (bytes : List ℕ) → IsTraced p groups text now left bytes → (left ≡ 0) ⊎ ((e : End) × (now.progress.end ≡ Some e))
+pub comes_to_end : (p : Program) (groups : ℕ) (text : List ℕ) (now : Execution) (left : ℕ) (bytes : List ℕ)
+    → IsTraced p groups text now left bytes → (left ≡ 0) ⊎ ((e : End) × (now.progress.end ≡ Some e))
     → HasBeenTraced p groups text now bytes
 comes_to_end p groups text now left bytes t over = record {
   came = sym (no_further left p now.progress over) ∙ t.rest;

@@ -36,7 +36,8 @@ pub record IsTrialOf (seed bundles : ℕ) (bytes : List ℕ) : Type 0 where
   pub program : IsProgram (trial_program seed bundles)
   pub free : HasNoViolation (trial_program seed bundles)
   pub robust : IsRobust (trial_program seed bundles)
-  pub printed : let run = run_of (trial_program seed bundles) bundles in bytes ≡ trial_text seed bundles run.end (length run.events) run.state.registers
+  pub printed : let run =
+      run_of (trial_program seed bundles) bundles in bytes ≡ trial_text seed bundles run.end (length run.events) run.state.registers
 
 -- What `trial` writes and answers, whatever the input is. However the run ends, the trial is done.
 abbrev pub IsTrialOutput : ℕ → ℕ → List ℕ → Status → Type 0

@@ -10,20 +10,25 @@ use Rattle.ia_program.specs.Programs.{Program, IsProgram, relation_at, relations
 use Rattle.ia_meaning.specs.Landings.{breaks_relation, are_both_one, arrived, IsBroken}
 
 -- Where a branch arrives it breaks no relation, and what holds of the entry whose address it is holds of it.
-pub arrived_keeps : (p : Program) (low : List Bool) (o : Option ℕ) (Good : ℕ → Type 0) → IfSome o Good → IfOk (arrived p low o) (λ to. Good to × (breaks_relation p low to ≡ false))
+pub arrived_keeps : (p : Program) (low : List Bool) (o : Option ℕ) (Good : ℕ → Type 0) → IfSome o Good
+    → IfOk (arrived p low o) (λ to. Good to × (breaks_relation p low to ≡ false))
 arrived_keeps p low None Good h = tt
 arrived_keeps p low (Some bundle) Good h = chosen (breaks_relation p low bundle) refl
   where
-    chosen : (b : Bool) → breaks_relation p low bundle ≡ b → IfOk (if b then Err BadRelation else Ok bundle) (λ to. Good to × (breaks_relation p low to ≡ false))
+    chosen : (b : Bool) → breaks_relation p low bundle ≡ b → IfOk (if b then Err BadRelation else Ok bundle)
+        (λ to. Good to × (breaks_relation p low to ≡ false))
     chosen true e = tt
     chosen false e = (h, e)
 
 -- Of a list none of whose relations passes a test none passes it among those of a bundle.
-none_passes : (test : Relation → Bool) (bundle : ℕ) (rs : List Relation) → ((n : ℕ) → n < length rs → test (relation_at rs n) ≡ false) → list_any test (relations_at rs bundle) ≡ false
+none_passes : (test : Relation → Bool) (bundle : ℕ) (rs : List Relation) → ((n : ℕ) → n < length rs → test (relation_at rs n) ≡ false)
+    → list_any test (relations_at rs bundle) ≡ false
 none_passes test bundle [] none = refl
-none_passes test bundle (r ∷ rs) none = kept (r.bundle == bundle) (none zero (omega arith)) (none_passes test bundle rs (λ n inside. none (suc n) (omega arith)))
+none_passes test bundle (r ∷ rs) none =
+    kept (r.bundle == bundle) (none zero (omega arith)) (none_passes test bundle rs (λ n inside. none (suc n) (omega arith)))
   where
-    kept : (b : Bool) → test r ≡ false → list_any test (relations_at rs bundle) ≡ false → list_any test (cond b (r ∷ relations_at rs bundle) (relations_at rs bundle)) ≡ false
+    kept : (b : Bool) → test r ≡ false → list_any test (relations_at rs bundle) ≡ false
+        → list_any test (cond b (r ∷ relations_at rs bundle) (relations_at rs bundle)) ≡ false
     kept true first rest = grind arith
     kept false first rest = rest
 
@@ -32,26 +37,31 @@ abbrev Passes : (Relation → Bool) → ℕ → List Relation → Type 0
 Passes test bundle rs = (n : ℕ) × (n < length rs) × ((relation_at rs n).bundle ≡ bundle) × (test (relation_at rs n) ≡ true)
 
 -- Where a test finds a relation of the bundle, one of the relations passes it.
-passing_found : (test : Relation → Bool) (bundle : ℕ) (rs : List Relation) → list_any test (relations_at rs bundle) ≡ true → Passes test bundle rs
+passing_found : (test : Relation → Bool) (bundle : ℕ) (rs : List Relation) → list_any test (relations_at rs bundle) ≡ true
+    → Passes test bundle rs
 passing_found test bundle [] found = absurd (cc)
 passing_found test bundle (r ∷ rs) found = of (r.bundle == bundle) (test r) refl refl (passing_found test bundle rs) found
   where
     later : Passes test bundle rs → Passes test bundle (r ∷ rs)
     later (n, inside, here, passes) = (suc n, omega (arith, inside), here, passes)
 
-    of : (a b : Bool) → (r.bundle == bundle) ≡ a → test r ≡ b → (list_any test (relations_at rs bundle) ≡ true → Passes test bundle rs) → list_any test (cond a (r ∷ relations_at rs bundle) (relations_at rs bundle)) ≡ true → Passes test bundle (r ∷ rs)
+    of : (a b : Bool) → (r.bundle == bundle) ≡ a → test r ≡ b → (list_any test (relations_at rs bundle) ≡ true → Passes test bundle rs)
+        → list_any test (cond a (r ∷ relations_at rs bundle) (relations_at rs bundle)) ≡ true → Passes test bundle (r ∷ rs)
     of true true e f rest h = (zero, omega arith, eqb-true r.bundle bundle e, f)
     of true false e f rest h = later (rest (grind (arith, f, h)))
     of false b e f rest h = later (rest h)
 
-passing_is_found : (test : Relation → Bool) (bundle : ℕ) (rs : List Relation) → Passes test bundle rs → list_any test (relations_at rs bundle) ≡ true
+passing_is_found : (test : Relation → Bool) (bundle : ℕ) (rs : List Relation) → Passes test bundle rs
+    → list_any test (relations_at rs bundle) ≡ true
 passing_is_found test bundle [] (n, inside, here, passes) = absurd (omega (arith, inside))
 passing_is_found test bundle (r ∷ rs) (zero, inside, here, passes) =
     let same : (r.bundle == bundle) ≡ true = eq-eqb r.bundle bundle here in
     rw (same, passes) refl
-passing_is_found test bundle (r ∷ rs) (suc n, inside, here, passes) = kept (r.bundle == bundle) (passing_is_found test bundle rs (n, omega (arith, inside), here, passes))
+passing_is_found test bundle (r ∷ rs) (suc n, inside, here, passes) =
+    kept (r.bundle == bundle) (passing_is_found test bundle rs (n, omega (arith, inside), here, passes))
   where
-    kept : (b : Bool) → list_any test (relations_at rs bundle) ≡ true → list_any test (cond b (r ∷ relations_at rs bundle) (relations_at rs bundle)) ≡ true
+    kept : (b : Bool) → list_any test (relations_at rs bundle) ≡ true
+        → list_any test (cond b (r ∷ relations_at rs bundle) (relations_at rs bundle)) ≡ true
     kept true h = grind arith
     kept false h = h
 
@@ -76,5 +86,6 @@ zero_low (suc n) some most = get_or-replicate 15 n false false (omega arith)
 pub zero_keeps : (p : Program) (bundle : ℕ) → IsProgram p → breaks_relation p (true ∷ replicate 15 false) bundle ≡ false
 zero_keeps p bundle program = none_passes (are_both_one (true ∷ replicate 15 false)) bundle p.relations (λ n inside.
     let at = program.relations n inside in
-    let one : get_or (true ∷ replicate 15 false) (relation_at p.relations n).p false ≡ false = zero_low (relation_at p.relations n).p at.some (omega (arith, at.apart, at.static)) in
+    let one : get_or (true ∷ replicate 15 false) (relation_at p.relations n).p false ≡ false =
+    zero_low (relation_at p.relations n).p at.some (omega (arith, at.apart, at.static)) in
     rw one refl)

@@ -31,5 +31,6 @@ byte_loaded bytes n =
     rw number (omega arith)
 
 -- A load of one byte from the address of a data byte gives it.
-pub byte_at_address : (bytes : List ℕ) (n : ℕ) → n < length bytes → (access_fault bytes (data_address n) 1 ≡ None) × (loaded bytes (data_address n) 1 ≡ get_or bytes n 0)
+pub byte_at_address : (bytes : List ℕ) (n : ℕ) → n < length bytes
+    → (access_fault bytes (data_address n) 1 ≡ None) × (loaded bytes (data_address n) 1 ≡ get_or bytes n 0)
 byte_at_address bytes n h = (byte_access bytes n h, byte_loaded bytes n)

@@ -24,7 +24,8 @@ application_keeps : (a : Ar) (x : ℕ) (m : Memory) → ApplicationCases (Keeps 
 application_keeps Pfs x m = λ _. refl
 application_keeps a x m = refl
 
-act_keeps : (s : Site) (action : Action) (r : Registers) (m : Memory) (unat : ℕ) → accesses_memory action ≡ false → ActCases (Keeps m.bytes) s action r m unat
+act_keeps : (s : Site) (action : Action) (r : Registers) (m : Memory) (unat : ℕ) → accesses_memory action ≡ false
+    → ActCases (Keeps m.bytes) s action r m unat
 act_keeps s (Compute r1 r2 r3 f) r m unat h = (λ k. refl, λ d a b _ _ _. refl)
 act_keeps s (Fetch r1 source) r m unat h = (λ k. refl, λ d _. refl)
 act_keeps s (Test kind p1 p2 r2 r3 c) r m unat h = (λ k. refl, λ a b _ _. refl)
@@ -65,4 +66,5 @@ pub bytes_kept : (s : Site) (insn : Insn) (next : Option Place) (r : Registers) 
     → (let o = effect s insn r m unat in settled next m o.next o).memory.bytes ≡ m.bytes
 bytes_kept s insn next r m unat h =
     settled_keeps next m _ (effect s insn r m unat)
-    (guarded_cases (Keeps m.bytes) s insn.qp (insn_action insn) r m unat (λ t. act_keeps s (insn_action insn) r m unat (h t)) (λ _. skip_keeps s (insn_action insn) r m))
+    (guarded_cases (Keeps m.bytes) s insn.qp (insn_action insn) r m unat (λ t. act_keeps s (insn_action insn) r m unat (h t))
+    (λ _. skip_keeps s (insn_action insn) r m))

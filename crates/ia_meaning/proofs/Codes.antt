@@ -23,12 +23,14 @@ module _ {X : Type 0} where
   all_taken (x ∷ xs) = (xs, inl (refl, refl), all_taken xs)
 
   -- Two items are taken in either order.
-  other_order : (xs : List X) (x : X) (r : List X) (z : X) (s : List X) → IsTaken xs x r → IsTaken r z s → (t : List X) × IsTaken xs z t × IsTaken t x s
+  other_order : (xs : List X) (x : X) (r : List X) (z : X) (s : List X) → IsTaken xs x r → IsTaken r z s
+      → (t : List X) × IsTaken xs z t × IsTaken t x s
   other_order [] x r z s a b = absurd a
   other_order (y ∷ ys) x r z s (inl a) b = (y ∷ s, inr (s, refl, subst (λ l. IsTaken l z s) a.1 b), inl (a.0, refl))
   other_order (y ∷ ys) x r z s (inr (q, e, a)) b = of (subst (λ l. IsTaken l z s) e b) (λ p c. other_order ys x q z p a c)
     where
-      of : IsTaken (y ∷ q) z s → ((p : List X) → IsTaken q z p → (t : List X) × IsTaken ys z t × IsTaken t x p) → (t : List X) × IsTaken (y ∷ ys) z t × IsTaken t x s
+      of : IsTaken (y ∷ q) z s → ((p : List X) → IsTaken q z p → (t : List X) × IsTaken ys z t × IsTaken t x p)
+          → (t : List X) × IsTaken (y ∷ ys) z t × IsTaken t x s
       of (inl c) again = (ys, inl (c.0, refl), subst (λ l. IsTaken ys x l) (sym c.1) a)
       of (inr (p, f, c)) again = let g = again p c in (y ∷ g.0, inr (g.0, refl, g.1), inr (p, f, g.2))
 
@@ -72,7 +74,8 @@ module _ {X : Type 0} where
       IsPermutation-keeps xs (AreTaken xs) (all_taken xs) (λ l i j h k q. taken_in_turn (swap l i j) xs l q (swapped l i j h k)) ys p
 
   -- Where the item that is taken stands.
-  place_taken : (x : X) (xs : List X) (y : X) (r : List X) → IsTaken (x ∷ xs) y r → (k : ℕ) × (k < suc (length xs)) × (item_at x xs k ≡ y) × (others x xs k ≡ r)
+  place_taken : (x : X) (xs : List X) (y : X) (r : List X) → IsTaken (x ∷ xs) y r
+      → (k : ℕ) × (k < suc (length xs)) × (item_at x xs k ≡ y) × (others x xs k ≡ r)
   place_taken x [] y r (inl e) = (0, zero-lt-suc _, e.0, sym e.1)
   place_taken x [] y r (inr (s, e, t)) = absurd t
   place_taken x (z ∷ zs) y r (inl e) = (0, zero-lt-suc _, e.0, sym e.1)
@@ -91,7 +94,8 @@ module _ {X : Type 0} where
   code_taken (y ∷ ys) [] (r, t, p) = absurd t
   code_taken (y ∷ ys) (x ∷ xs) (r, t, p) = of (place_taken x xs y r t) (code_taken ys r p)
     where
-      of : (k : ℕ) × (k < suc (length xs)) × (item_at x xs k ≡ y) × (others x xs k ≡ r) → (code : List ℕ) × (arranged_within (length r) code r ≡ ys)
+      of : (k : ℕ) × (k < suc (length xs)) × (item_at x xs k ≡ y) × (others x xs k ≡ r)
+          → (code : List ℕ) × (arranged_within (length r) code r ≡ ys)
           → (code : List ℕ) × (arranged_within (suc (length xs)) code (x ∷ xs) ≡ y ∷ ys)
       of (k, small, is, others) (code, e) =
           let within : k % suc (length xs) ≡ k = mod-eq_of_lt small in

@@ -13,11 +13,13 @@ pub record IsAccess (count address size : ℕ) : Type 0 where
   pub above : data_base ≤ address
   pub within : address + size ≤ data_base + count
 
-by_tests : (count address size : ℕ) (a w : Bool) → (address % size == 0) ≡ a → (nat_le data_base address && nat_le (address + size) (data_base + count)) ≡ w
+by_tests : (count address size : ℕ) (a w : Bool) → (address % size == 0) ≡ a
+    → (nat_le data_base address && nat_le (address + size) (data_base + count)) ≡ w
     → (if not a then Some Unaligned else if w then None else Some BadAddress) ≡ None → IsAccess count address size
 by_tests count address size false w e f h = absurd (cc)
 by_tests count address size true false e f h = absurd (cc)
-by_tests count address size true true e f h = record { aligned = grind (arith, nat_tests); above = grind (arith, nat_tests); within = grind (arith, nat_tests) }
+by_tests count address size true true e f h =
+    record { aligned = grind (arith, nat_tests); above = grind (arith, nat_tests); within = grind (arith, nat_tests) }
 
 pub is_access : (bytes : List ℕ) (address size : ℕ) → access_fault bytes address size ≡ None → IsAccess (length bytes) address size
 unfolding access_fault

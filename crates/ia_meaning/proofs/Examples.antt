@@ -67,7 +67,12 @@ memory = record { bytes = 1 ∷ 2 ∷ 3 ∷ 4 ∷ 5 ∷ 6 ∷ 7 ∷ 8 ∷ 9 ∷ 
 
 -- Bundle 10; address 32 alone is that of an entry, bundle 2, which asks that p6 is 0.
 abbrev here : Site
-here = record { bundle = 10; arrival = λ low address. if address == 32 then (if get_or low 6 false then Err BadRelation else Ok 2) else Err BadLanding }
+here =
+    record {
+      bundle = 10;
+      arrival = λ low address. if address == 32 then (if get_or low 6 false then Err BadRelation else Ok 2) else Err
+          BadLanding;
+    }
 
 abbrev run : ℕ → Op → Registers → Outcome
 run qp o r = effect here (record { qp = qp; op = o }) r memory 0
@@ -166,7 +171,9 @@ unfolding look spot holds predicate_spot predicate_index
 predicate_zero = (refl, refl)
 
 -- p16 and p63 stand elsewhere under a rename base of 1.
-predicate_renamed : run 0 (op.Cmp false Eq Normal 16 63 1 1) (record registers { frame = record zero_frame { rrbs = record zero_bases { pr = 1 } } }) ≡ falls (SetPredicate 17 true ∷ SetPredicate 16 false ∷ []) memory
+predicate_renamed : run 0 (op.Cmp false Eq Normal 16 63 1 1) (record registers
+    { frame = record zero_frame { rrbs = record zero_bases { pr = 1 } } })
+    ≡ falls (SetPredicate 17 true ∷ SetPredicate 16 false ∷ []) memory
 unfolding look spot holds predicate_spot predicate_index
 predicate_renamed = refl
 
@@ -323,7 +330,8 @@ zeros (suc left) n ws = SetPredicate n false ∷ zeros left (suc n) ws
 masked :
     (run 0 (op.MovToPr 1 2) registers ≡ falls (SetPredicate 1 true ∷ []) memory)
     × (run 0 (op.MovToPr 1 1) registers ≡ nothing)
-    × (run 0 (op.MovToPr 4 (2 ^ 16)) (with_r4 (cell (2 ^ 15 + 2 ^ 16 + 2 ^ 63))) ≡ falls (SetPredicate 16 true ∷ zeros 46 17 (SetPredicate 63 true ∷ [])) memory)
+    × (run 0 (op.MovToPr 4 (2 ^ 16)) (with_r4 (cell (2 ^ 15 + 2 ^ 16 + 2 ^ 63)))
+    ≡ falls (SetPredicate 16 true ∷ zeros 46 17 (SetPredicate 63 true ∷ [])) memory)
     × (run 0 (op.MovToPrRot (pos 0x10000)) registers ≡ falls (SetPredicate 16 true ∷ zeros 47 17 []) memory)
 unfolding look spot holds predicate_writes
 masked = (refl, refl, refl, refl)
@@ -415,9 +423,12 @@ alloc r1 sof sol sor f = run 0 (op.Alloc r1 sof sol sor) (record registers { fra
 
 -- The name of the target is looked up in the new frame.
 allocated_name :
-    (alloc 32 8 4 1 zero_frame ≡ falls (SetFrame Resized (record zero_frame { sof = 8; sol = 4; sor = 1 }) ∷ SetCell 0 (cell 77) ∷ []) memory)
+    (alloc 32 8 4 1 zero_frame ≡ falls (SetFrame Resized (record zero_frame { sof = 8; sol = 4; sor = 1 }) ∷ SetCell 0 (cell 77) ∷ [])
+    memory)
     × (alloc 39 4 4 0 (record zero_frame { sof = 8 }) ≡ faults OutOfFrame memory)
-    × (alloc 32 8 4 1 (record zero_frame { base = 5; sof = 8; sor = 1; rrbs = record zero_bases { gr = 3 } }) ≡ falls (SetFrame Resized (record { base = 5; sof = 8; sol = 4; sor = 1; rrbs = record zero_bases { gr = 3 } }) ∷ SetCell 8 (cell 77) ∷ []) memory)
+    × (alloc 32 8 4 1 (record zero_frame { base = 5; sof = 8; sor = 1; rrbs = record zero_bases { gr = 3 } })
+    ≡ falls (SetFrame Resized (record { base = 5; sof = 8; sol = 4; sor = 1; rrbs = record zero_bases { gr = 3 } }) ∷ SetCell 8
+    (cell 77) ∷ []) memory)
 unfolding look spot holds frame_index has_zero_bases
 allocated_name = (refl, refl, refl)
 
@@ -425,7 +436,8 @@ allocated_name = (refl, refl, refl)
 allocated_faults :
     (alloc 32 16 4 2 (record zero_frame { sof = 8; sor = 1; rrbs = record zero_bases { pr = 1 } }) ≡ faults ReservedField memory)
     × (alloc 32 8 4 0 (record zero_frame { base = 65529 }) ≡ faults StackLimit memory)
-    × (alloc 32 7 4 0 (record zero_frame { base = 65529 }) ≡ falls (SetFrame Resized (record zero_frame { base = 65529; sof = 7; sol = 4 }) ∷ SetCell 65529 (cell 77) ∷ []) memory)
+    × (alloc 32 7 4 0 (record zero_frame { base = 65529 }) ≡ falls
+    (SetFrame Resized (record zero_frame { base = 65529; sof = 7; sol = 4 }) ∷ SetCell 65529 (cell 77) ∷ []) memory)
 unfolding look spot holds frame_index has_zero_bases
 allocated_faults = (refl, refl, refl)
 
@@ -434,13 +446,20 @@ abbrev caller : FrameShape
 caller = record { base = 20; sof = 8; sol = 5; sor = 1; rrbs = record { gr = 3; fr = 2; pr = 1 } }
 
 -- The previous function state of a call has EC, here 9, as pec, and 3 as ppl.
-called_from : run 0 (op.BrCall 6 0 false false (pos 2)) (record registers { frame = caller; ec = 9 }) ≡ goes (SetBranch 6 0x100b0 ∷ SetPfs 0xc090_0001_040c_4288 ∷ SetFrame Resized (record { base = 25; sof = 3; sol = 0; sor = 0; rrbs = zero_bases }) ∷ []) memory 12
+called_from : run 0 (op.BrCall 6 0 false false (pos 2)) (record registers { frame = caller; ec = 9 })
+    ≡ goes (SetBranch 6 0x100b0 ∷ SetPfs 0xc090_0001_040c_4288 ∷ SetFrame Resized
+    (record { base = 25; sof = 3; sol = 0; sor = 0; rrbs = zero_bases }) ∷ []) memory 12
 unfolding look spot holds frame_marker call_state
 called_from = refl
 
 -- A return from a frame with this base, to the address in b0.
 abbrev return_from : ℕ → ℕ → ℕ → Outcome
-return_from base pfs address = run 0 (op.BrRet 0 0 false false) (record registers { frame = record zero_frame { base = base; sof = 3 }; pfs = pfs; branches = address ∷ [] })
+return_from base pfs address =
+    run 0 (op.BrRet 0 0 false false) (record registers {
+      frame = record zero_frame { base = base; sof = 3 };
+      pfs = pfs;
+      branches = address ∷ [];
+    })
 
 -- That state gives back the frame and EC.
 returned_to : return_from 25 0xc090_0001_040c_4288 32 ≡ goes (SetFrame Resized caller ∷ SetEc 9 ∷ []) memory 2
@@ -462,8 +481,10 @@ unfolding look spot holds marked_frame is_frame return_fault
 return_faults = (refl, refl, refl, refl, refl, refl, refl, refl)
 
 cleared_bases :
-    (run 0 (op.Clrrrb false) (record registers { frame = caller }) ≡ falls (SetFrame Renamed (record caller { rrbs = zero_bases }) ∷ []) memory)
-    × (run 0 (op.Clrrrb true) (record registers { frame = caller }) ≡ falls (SetFrame Renamed (record caller { rrbs = record { gr = 3; fr = 2; pr = 0 } }) ∷ []) memory)
+    (run 0 (op.Clrrrb false) (record registers { frame = caller })
+    ≡ falls (SetFrame Renamed (record caller { rrbs = zero_bases }) ∷ []) memory)
+    × (run 0 (op.Clrrrb true) (record registers { frame = caller })
+    ≡ falls (SetFrame Renamed (record caller { rrbs = record { gr = 3; fr = 2; pr = 0 } }) ∷ []) memory)
 unfolding look spot holds
 cleared_bases = (refl, refl)
 
@@ -514,8 +535,10 @@ abbrev load_at : LoadKind → Cell → Memory → ℕ → Outcome
 load_at kind address m unat = run_with (op.Load 8 kind 0 2 4 update.None) address m unat
 
 loads_entering :
-    (load_at load.A (cell 0x100000) memory 0 ≡ falls (SetStatic 2 (cell 0x0807_0605_0403_0201) ∷ []) (record memory { alat = entry (Static 2) 0x100000 8 ∷ [] }))
-    × (load_at load.Sa (cell 0x100000) memory 0 ≡ falls (SetStatic 2 (cell 0x0807_0605_0403_0201) ∷ []) (record memory { alat = entry (Static 2) 0x100000 8 ∷ [] }))
+    (load_at load.A (cell 0x100000) memory 0 ≡ falls (SetStatic 2 (cell 0x0807_0605_0403_0201) ∷ [])
+    (record memory { alat = entry (Static 2) 0x100000 8 ∷ [] }))
+    × (load_at load.Sa (cell 0x100000) memory 0 ≡ falls (SetStatic 2 (cell 0x0807_0605_0403_0201) ∷ [])
+    (record memory { alat = entry (Static 2) 0x100000 8 ∷ [] }))
     × (load_at load.Plain (cell 0x100000) memory 0 ≡ falls (SetStatic 2 (cell 0x0807_0605_0403_0201) ∷ []) memory)
 unfolding look spot holds access_fault loaded invalidated entered has_hit
 loads_entering = (refl, refl, refl)
@@ -533,7 +556,8 @@ unfolding look spot holds access_fault loaded invalidated entered has_hit
 check_hits = (refl, refl, refl)
 
 check_misses :
-    (load_at load.CNc (cell 0x100008) (with_target 0x100000) 0 ≡ falls (SetStatic 2 (cell 0x100f_0e0d_0c0b_0a09) ∷ []) (with_target 0x100008))
+    (load_at load.CNc (cell 0x100008) (with_target 0x100000) 0 ≡ falls (SetStatic 2 (cell 0x100f_0e0d_0c0b_0a09) ∷ [])
+    (with_target 0x100008))
     × (load_at load.CClr (cell 0x100008) (with_target 0x100000) 0 ≡ falls (SetStatic 2 (cell 0x100f_0e0d_0c0b_0a09) ∷ []) memory)
     × (load_at load.CClrAcq (cell 3) (with_target 0x100000) 0 ≡ faults Unaligned (with_target 0x100000))
 unfolding look spot holds access_fault loaded invalidated entered has_hit
@@ -551,8 +575,20 @@ checks = (refl, refl, refl)
 
 -- The NaT bit goes to the bit of UNAT whose number is bits 8:3 of the address, here 1.
 spilled_nat :
-    (run_with (op.Store 8 store.Spill 0 4 3 update.None) (cell 0x100008) memory 0 ≡ record { writes = []; memory = record memory { bytes = 1 ∷ 2 ∷ 3 ∷ 4 ∷ 5 ∷ 6 ∷ 7 ∷ 8 ∷ 7 ∷ 0 ∷ 0 ∷ 0 ∷ 0 ∷ 0 ∷ 0 ∷ 0 ∷ [] }; spills = Some (1, true); next = Falls })
-    × (run_with (op.Store 8 store.Spill 0 4 1 update.None) (cell 0x100008) memory 0 ≡ record { writes = []; memory = record memory { bytes = 1 ∷ 2 ∷ 3 ∷ 4 ∷ 5 ∷ 6 ∷ 7 ∷ 8 ∷ 3 ∷ 0 ∷ 0 ∷ 0 ∷ 0 ∷ 0 ∷ 0 ∷ 0 ∷ [] }; spills = Some (1, false); next = Falls })
+    (run_with (op.Store 8 store.Spill 0 4 3 update.None) (cell 0x100008) memory 0
+    ≡ record {
+      writes = [];
+      memory = record memory { bytes = 1 ∷ 2 ∷ 3 ∷ 4 ∷ 5 ∷ 6 ∷ 7 ∷ 8 ∷ 7 ∷ 0 ∷ 0 ∷ 0 ∷ 0 ∷ 0 ∷ 0 ∷ 0 ∷ [] };
+      spills = Some (1, true);
+      next = Falls;
+    })
+    × (run_with (op.Store 8 store.Spill 0 4 1 update.None) (cell 0x100008) memory 0
+    ≡ record {
+      writes = [];
+      memory = record memory { bytes = 1 ∷ 2 ∷ 3 ∷ 4 ∷ 5 ∷ 6 ∷ 7 ∷ 8 ∷ 3 ∷ 0 ∷ 0 ∷ 0 ∷ 0 ∷ 0 ∷ 0 ∷ 0 ∷ [] };
+      spills = Some (1, false);
+      next = Falls;
+    })
     × (run_with (op.Store 8 store.Plain 0 4 3 update.None) (cell 0x100008) memory 0 ≡ faults NatConsumed memory)
 unfolding look spot holds access_fault stored untouched
 spilled_nat = (refl, refl, refl)
@@ -599,7 +635,8 @@ load_faults = (refl, refl, refl, refl)
 deferred_update :
     (run_with (op.Load 8 load.S 0 2 4 (update.Imm (negsuc 0))) (cell 0x100001) memory 0 ≡ defers (SetStatic 4 (cell 0x100000) ∷ []) memory)
     × (run_with (op.Load 8 load.S 0 2 4 (update.Reg 1)) (nat_cell 0x100000) memory 0 ≡ defers (SetStatic 4 (nat_cell 0x100003) ∷ []) memory)
-    × (run_with (op.Load 8 load.Plain 0 2 4 (update.Reg 3)) (cell 0x100000) memory 0 ≡ falls (SetStatic 2 (cell 0x0807_0605_0403_0201) ∷ SetStatic 4 (nat_cell 0x100007) ∷ []) memory)
+    × (run_with (op.Load 8 load.Plain 0 2 4 (update.Reg 3)) (cell 0x100000) memory 0
+    ≡ falls (SetStatic 2 (cell 0x0807_0605_0403_0201) ∷ SetStatic 4 (nat_cell 0x100007) ∷ []) memory)
 unfolding look spot holds access_fault loaded invalidated entered has_hit
 deferred_update = (refl, refl, refl)
 
@@ -608,17 +645,23 @@ abbrev of_bytes : List ℕ → Memory
 of_bytes bytes = record memory { bytes = bytes }
 
 exchanges :
-    (run_with (op.Xchg 1 0 2 4 4) (cell 0x100001) memory 0 ≡ falls (SetStatic 2 (cell 2) ∷ []) (of_bytes (1 ∷ 1 ∷ 3 ∷ 4 ∷ 5 ∷ 6 ∷ 7 ∷ 8 ∷ 9 ∷ 10 ∷ 11 ∷ 12 ∷ 13 ∷ 14 ∷ 15 ∷ 16 ∷ [])))
-    × (run_with (op.Xchg 8 0 4 4 2) (cell 0x100000) memory 0 ≡ falls (SetStatic 4 (cell 0x0807_0605_0403_0201) ∷ []) (of_bytes (5 ∷ 0 ∷ 0 ∷ 0 ∷ 0 ∷ 0 ∷ 0 ∷ 0 ∷ 9 ∷ 10 ∷ 11 ∷ 12 ∷ 13 ∷ 14 ∷ 15 ∷ 16 ∷ [])))
-    × (run_with (op.FetchAdd 4 false 0 2 4 (negsuc 15)) (cell 0x100004) memory 0 ≡ falls (SetStatic 2 (cell 0x0807_0605) ∷ []) (of_bytes (1 ∷ 2 ∷ 3 ∷ 4 ∷ 245 ∷ 5 ∷ 7 ∷ 8 ∷ 9 ∷ 10 ∷ 11 ∷ 12 ∷ 13 ∷ 14 ∷ 15 ∷ 16 ∷ [])))
-    × (run_with (op.FetchAdd 8 true 0 2 4 (pos 8)) (cell 0x100008) memory 0 ≡ falls (SetStatic 2 (cell 0x100f_0e0d_0c0b_0a09) ∷ []) (of_bytes (1 ∷ 2 ∷ 3 ∷ 4 ∷ 5 ∷ 6 ∷ 7 ∷ 8 ∷ 17 ∷ 10 ∷ 11 ∷ 12 ∷ 13 ∷ 14 ∷ 15 ∷ 16 ∷ [])))
+    (run_with (op.Xchg 1 0 2 4 4) (cell 0x100001) memory 0 ≡ falls (SetStatic 2 (cell 2) ∷ [])
+    (of_bytes (1 ∷ 1 ∷ 3 ∷ 4 ∷ 5 ∷ 6 ∷ 7 ∷ 8 ∷ 9 ∷ 10 ∷ 11 ∷ 12 ∷ 13 ∷ 14 ∷ 15 ∷ 16 ∷ [])))
+    × (run_with (op.Xchg 8 0 4 4 2) (cell 0x100000) memory 0 ≡ falls (SetStatic 4 (cell 0x0807_0605_0403_0201) ∷ [])
+    (of_bytes (5 ∷ 0 ∷ 0 ∷ 0 ∷ 0 ∷ 0 ∷ 0 ∷ 0 ∷ 9 ∷ 10 ∷ 11 ∷ 12 ∷ 13 ∷ 14 ∷ 15 ∷ 16 ∷ [])))
+    × (run_with (op.FetchAdd 4 false 0 2 4 (negsuc 15)) (cell 0x100004) memory 0 ≡ falls (SetStatic 2 (cell 0x0807_0605) ∷ [])
+    (of_bytes (1 ∷ 2 ∷ 3 ∷ 4 ∷ 245 ∷ 5 ∷ 7 ∷ 8 ∷ 9 ∷ 10 ∷ 11 ∷ 12 ∷ 13 ∷ 14 ∷ 15 ∷ 16 ∷ [])))
+    × (run_with (op.FetchAdd 8 true 0 2 4 (pos 8)) (cell 0x100008) memory 0 ≡ falls (SetStatic 2 (cell 0x100f_0e0d_0c0b_0a09) ∷ [])
+    (of_bytes (1 ∷ 2 ∷ 3 ∷ 4 ∷ 5 ∷ 6 ∷ 7 ∷ 8 ∷ 17 ∷ 10 ∷ 11 ∷ 12 ∷ 13 ∷ 14 ∷ 15 ∷ 16 ∷ [])))
 unfolding look spot holds access_fault loaded stored untouched
 exchanges = (refl, refl, refl, refl)
 
 -- A sum wraps within its bytes.
 sums_wrapped :
-    (run_with (op.FetchAdd 4 false 0 2 4 (negsuc 0)) (cell 0x100000) (of_bytes (replicate 8 0)) 0 ≡ falls (SetStatic 2 (cell 0) ∷ []) (of_bytes (replicate 4 255 ++ replicate 4 0)))
-    × (run_with (op.FetchAdd 8 false 0 2 4 (pos 1)) (cell 0x100000) (of_bytes (replicate 8 255)) 0 ≡ falls (SetStatic 2 (cell 0xffff_ffff_ffff_ffff) ∷ []) (of_bytes (replicate 8 0)))
+    (run_with (op.FetchAdd 4 false 0 2 4 (negsuc 0)) (cell 0x100000) (of_bytes (replicate 8 0)) 0 ≡ falls (SetStatic 2 (cell 0) ∷ [])
+    (of_bytes (replicate 4 255 ++ replicate 4 0)))
+    × (run_with (op.FetchAdd 8 false 0 2 4 (pos 1)) (cell 0x100000) (of_bytes (replicate 8 255)) 0
+    ≡ falls (SetStatic 2 (cell 0xffff_ffff_ffff_ffff) ∷ []) (of_bytes (replicate 8 0)))
 unfolding look spot holds access_fault loaded stored untouched
 sums_wrapped = (refl, refl)
 
@@ -653,7 +696,9 @@ of_three insn = record { template = 0; slots = Three idle idle insn }
 -- Of five bundles, the last with a long instruction and no stop at its end.
 abbrev landed_in : Program
 landed_in = record {
-  bundles = of_three idle ∷ of_three idle ∷ of_three (record { qp = 0; op = op.BrCall 0 0 false false (pos 0) }) ∷ of_three idle ∷ record { template = 4; slots = Long idle idle } ∷ [];
+  bundles =
+      of_three idle ∷ of_three idle ∷ of_three (record { qp = 0; op = op.BrCall 0 0 false false (pos 0) }) ∷ of_three
+      idle ∷ record { template = 4; slots = Long idle idle } ∷ [];
   entries = 1 ∷ [];
   bytes = [];
   relations = record { bundle = 0; p = 6; q = 7 } ∷ record { bundle = 1; p = 1; q = 15 } ∷ record { bundle = 1; p = 6; q = 7 } ∷ [];
@@ -759,7 +804,8 @@ landed :
     × (run 0 (op.BrInd 2 0 false false) (record registers { branches = 0 ∷ 0 ∷ 33 ∷ [] }) ≡ faults BadLanding memory)
     × ((run 0 (op.BrCallInd 1 2 0 false false) (record registers { branches = 0 ∷ 0 ∷ 32 ∷ [] })).next ≡ Goes 2)
     × (run 0 (op.BrCallInd 1 2 0 false false) registers ≡ faults BadLanding memory)
-    × (run 0 (op.BrInd 2 0 false false) (record registers { branches = 0 ∷ 0 ∷ 32 ∷ []; predicates = set (replicate 64 false) 6 true }) ≡ faults BadRelation memory)
+    × (run 0 (op.BrInd 2 0 false false) (record registers { branches = 0 ∷ 0 ∷ 32 ∷ []; predicates = set (replicate 64 false) 6 true })
+    ≡ faults BadRelation memory)
 unfolding holds
 landed = (refl, refl, refl, refl, refl)
 
@@ -791,5 +837,6 @@ resident :
 resident = (refl, refl)
 
 -- What resizes a frame counts, and what renames it doesn't.
-changes : frame_changes (SetFrame Resized (record zero_frame { base = 5; sof = 3 }) ∷ SetLc 1 ∷ SetFrame Renamed zero_frame ∷ []) ≡ (5, 8) ∷ []
+changes : frame_changes (SetFrame Resized (record zero_frame { base = 5; sof = 3 }) ∷ SetLc 1 ∷ SetFrame Renamed zero_frame ∷ [])
+    ≡ (5, 8) ∷ []
 changes = refl

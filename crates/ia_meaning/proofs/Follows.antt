@@ -21,14 +21,17 @@ landing_small : (p : Program) (address : ℕ) → IfSome (landing p address) (λ
 unfolding landing
 landing_small p address = chosen (nat_le (bundle_address 0) address) (is_entry p _) _ (entry_small p _)
   where
-    chosen : (a b : Bool) (n : ℕ) → (b ≡ true → n < length p.bundles) → IfSome (if a && b then Some n else None) (λ bundle. bundle < length p.bundles)
+    chosen : (a b : Bool) (n : ℕ) → (b ≡ true → n < length p.bundles)
+        → IfSome (if a && b then Some n else None) (λ bundle. bundle < length p.bundles)
     chosen false b n h = tt
     chosen true false n h = tt
     chosen true true n h = h refl
 
 -- An indirect branch arrives at a bundle of the program.
 pub arrival_small : (p : Program) (low : List Bool) (address : ℕ) → IfOk (arrival p low address) (λ bundle. bundle < length p.bundles)
-arrival_small p low address = IfOk-weaker (arrival p low address) _ _ (λ bundle kept. kept.0) (arrived_keeps p low (landing p address) (λ bundle. bundle < length p.bundles) (landing_small p address))
+arrival_small p low address =
+    IfOk-weaker (arrival p low address) _ _ (λ bundle kept. kept.0)
+    (arrived_keeps p low (landing p address) (λ bundle. bundle < length p.bundles) (landing_small p address))
 
 abs_small : (x : ℤ) (count : ℕ) → pos 0 ≤ℤ x → x <ℤ pos count → nat_abs x < count
 abs_small x count h k = omega (arith, ints)

@@ -59,7 +59,9 @@ AreGoodLandings Good s low = (address : ℕ) → IfOk (s.arrival low address) Go
 
 -- An effect goes on by falling, to the action's target, to a bundle that the site gives, or not at all. An action without a row
 -- here falls or goes to its target.
-act_on : (Good : ℕ → Type 0) (s : Site) (action : Action) (r : Registers) (m : Memory) (unat : ℕ) → AreGoodLandings Good s (take 16 r.predicates) → IsGoodTarget Good s.bundle (action_displacement action) → ActCases (IsGoodWay Good) s action r m unat
+act_on : (Good : ℕ → Type 0) (s : Site) (action : Action) (r : Registers) (m : Memory) (unat : ℕ)
+    → AreGoodLandings Good s (take 16 r.predicates) → IsGoodTarget Good s.bundle (action_displacement action)
+    → ActCases (IsGoodWay Good) s action r m unat
 act_on Good s (ToApplication ar r2 w) r m unat landings target = (λ kind. tt, λ a _ _. application_on Good ar (moved w a.value) m)
 act_on Good s (JumpIndirect b2) r m unat landings target = (λ kind. tt, λ to e. lands_on Good _ to (landings _) e)
 act_on Good s (Call b1 (Indirect b2)) r m unat landings target = (λ kind. tt, λ to e. lands_on Good _ to (landings _) e)
@@ -67,7 +69,8 @@ act_on Good s (Return b2) r m unat landings target = (λ kind. tt, λ to _ e. la
 act_on Good s action r m unat landings target = search (target)
 
 -- A skipped action goes on in a good way where its target is a good bundle.
-skip_on : (Good : ℕ → Type 0) (s : Site) (action : Action) (r : Registers) (m : Memory) → IsGoodTarget Good s.bundle (action_displacement action) → SkipCases (IsGoodWay Good) s action r m
+skip_on : (Good : ℕ → Type 0) (s : Site) (action : Action) (r : Registers) (m : Memory)
+    → IsGoodTarget Good s.bundle (action_displacement action) → SkipCases (IsGoodWay Good) s action r m
 skip_on Good s (Test kind p1 p2 r2 r3 c) r m target = (λ _. tt, λ _. tt)
 skip_on Good s (Loop kind disp) r m target = (λ _. target, λ _. tt)
 skip_on Good s _ r m target = tt
@@ -77,16 +80,22 @@ same_displacement : (o : Op) → action_displacement (action_of o) ≡ displacem
 same_displacement o = grind arith
 
 -- An instruction falls, goes to its target or to a bundle that the site gives, or ends the run.
-pub effect_on : (Good : ℕ → Type 0) (s : Site) (insn : Insn) (r : Registers) (m : Memory) (unat : ℕ) → AreGoodLandings Good s (take 16 r.predicates) → IsGoodTarget Good s.bundle (displacement insn.op) → IsGoodWay Good (effect s insn r m unat)
+pub effect_on : (Good : ℕ → Type 0) (s : Site) (insn : Insn) (r : Registers) (m : Memory) (unat : ℕ)
+    → AreGoodLandings Good s (take 16 r.predicates) → IsGoodTarget Good s.bundle (displacement insn.op)
+    → IsGoodWay Good (effect s insn r m unat)
 effect_on Good s insn r m unat landings target =
-    let good : IsGoodTarget Good s.bundle (action_displacement (action_of insn.op)) = subst (IsGoodTarget Good s.bundle) (sym (same_displacement insn.op)) target in
-    guarded_cases (IsGoodWay Good) s insn.qp (action_of insn.op) r m unat (λ _. act_on Good s (action_of insn.op) r m unat landings good) (λ _. skip_on Good s (action_of insn.op) r m good)
+    let good : IsGoodTarget Good s.bundle (action_displacement (action_of insn.op)) =
+    subst (IsGoodTarget Good s.bundle) (sym (same_displacement insn.op)) target in
+    guarded_cases (IsGoodWay Good) s insn.qp (action_of insn.op) r m unat (λ _. act_on Good s (action_of insn.op) r m unat landings good)
+    (λ _. skip_on Good s (action_of insn.op) r m good)
 
-settled_as : (Good : ℕ → Type 0) (next : Option Place) (m : Memory) (way : Next) (o : Outcome) → IsGoodWay Good o → IsGoodWay Good (settled next m way o)
+settled_as : (Good : ℕ → Type 0) (next : Option Place) (m : Memory) (way : Next) (o : Outcome) → IsGoodWay Good o
+    → IsGoodWay Good (settled next m way o)
 settled_as Good next m way o h = grind arith
 
 -- An outcome that goes on in a good way does so also where there may be no next place.
-pub settled_on : (Good : ℕ → Type 0) (next : Option Place) (m : Memory) (o : Outcome) → IsGoodWay Good o → IsGoodWay Good (settled next m o.next o)
+pub settled_on : (Good : ℕ → Type 0) (next : Option Place) (m : Memory) (o : Outcome) → IsGoodWay Good o
+    → IsGoodWay Good (settled next m o.next o)
 settled_on Good next m o h = settled_as Good next m o.next o h
 
 -- A slot falls through to a next place.
@@ -95,7 +104,8 @@ pub record FallsTo (next : Option Place) (o : Outcome) : Type 0 where
   pub place : Place
   pub is : next ≡ Some place
 
-falls_as : (next : Option Place) (m : Memory) (way : Next) (o : Outcome) → o.next ≡ way → (settled next m way o).next ≡ Falls → FallsTo next o
+falls_as : (next : Option Place) (m : Memory) (way : Next) (o : Outcome) → o.next ≡ way → (settled next m way o).next ≡ Falls
+    → FallsTo next o
 falls_as None m way o e h = absurd (grind arith)
 falls_as (Some place) m way o e h = record { falls = h; place = place; is = refl }
 
@@ -106,11 +116,13 @@ falls_to next m o h = falls_as next m o.next o refl h
 act_leaves : (s : Site) (o : Op) (r : Registers) (m : Memory) (unat : ℕ) → IsLeaving o → (act s (action_of o) r m unat).next ≡ Falls → ⊥
 act_leaves s o r m unat h e = grind arith
 
-guarded_leaves : (s : Site) (qp : ℕ) (o : Op) (r : Registers) (m : Memory) (unat : ℕ) → qp ≡ 0 → IsLeaving o → (guarded s qp (action_of o) r m unat).next ≡ Falls → ⊥
+guarded_leaves : (s : Site) (qp : ℕ) (o : Op) (r : Registers) (m : Memory) (unat : ℕ) → qp ≡ 0 → IsLeaving o
+    → (guarded s qp (action_of o) r m unat).next ≡ Falls → ⊥
 unfolding holds
 guarded_leaves s zero o r m unat z h e = act_leaves s o r m unat h e
 guarded_leaves s (suc p) o r m unat z h e = absurd (omega arith)
 
 -- A leaving instruction under p0 doesn't fall through.
-pub effect_leaves : (s : Site) (insn : Insn) (r : Registers) (m : Memory) (unat : ℕ) → insn.qp ≡ 0 → IsLeaving insn.op → (effect s insn r m unat).next ≡ Falls → ⊥
+pub effect_leaves : (s : Site) (insn : Insn) (r : Registers) (m : Memory) (unat : ℕ) → insn.qp ≡ 0 → IsLeaving insn.op
+    → (effect s insn r m unat).next ≡ Falls → ⊥
 effect_leaves s insn r m unat z h e = guarded_leaves s insn.qp insn.op r m unat z h e

@@ -37,7 +37,8 @@ zero_is_place p program = let c = program.counts in first_is_place p.bundles 0 (
 pub begins_under_way : (p : Program) → IsProgram p → IsUnderWay p (begun (zero_state p))
 begins_under_way p program = begun_under_way p (zero_state p) (zero_is_place p program)
 
-stepped_under_way : (p : Program) (m : Progress) → IsProgram p → IsUnderWay p m → (h : Option How) → (seq_step p m.state).how ≡ h → IsUnderWay p (stepped (opened m) (seq_step p m.state))
+stepped_under_way : (p : Program) (m : Progress) → IsProgram p → IsUnderWay p m → (h : Option How) → (seq_step p m.state).how ≡ h
+    → IsUnderWay p (stepped (opened m) (seq_step p m.state))
 stepped_under_way p m program u (Some how) e = record {
   place = stays_inside p m.state program u.place;
   before = [];
@@ -71,7 +72,8 @@ to_end_under_way : (most : ℕ) (p : Program) (m : Progress) → IsProgram p →
 to_end_under_way zero p m program u = u
 to_end_under_way (suc most) p m program u =
     let v = advances_under_way p m program u in
-    rest_under_way p (advanced p m).slots (advanced p m) (to_group_end most p (advanced p m)) v (to_end_under_way most p (advanced p m) program v)
+    rest_under_way p (advanced p m).slots (advanced p m) (to_group_end most p (advanced p m)) v
+    (to_end_under_way most p (advanced p m) program v)
 
 -- A run under way stays under way, one group further.
 pub group_under_way : (p : Program) (m : Progress) → IsProgram p → IsUnderWay p m → IsUnderWay p (group_further p m)
@@ -92,14 +94,16 @@ pub record IsInGroup (m next : Progress) : Type 0 where
   pub slots : next.slots ≡ suc m.slots
   pub end : next.end ≡ None
 
-stepped_in_group : (p : Program) (m : Progress) → IsUnderWay p m → (h : Option How) → (seq_step p m.state).how ≡ h → (k : ℕ) → (stepped (opened m) (seq_step p m.state)).slots ≡ suc k → IsInGroup m (stepped (opened m) (seq_step p m.state))
+stepped_in_group : (p : Program) (m : Progress) → IsUnderWay p m → (h : Option How) → (seq_step p m.state).how ≡ h → (k : ℕ)
+    → (stepped (opened m) (seq_step p m.state)).slots ≡ suc k → IsInGroup m (stepped (opened m) (seq_step p m.state))
 stepped_in_group p m u (Some how) e k s = absurd (let z : 0 ≡ suc k = rw e at s in omega arith)
 stepped_in_group p m u None e k s =
     let c = step_continues p m.state u.place e in
     let o = opened_keeps m in
     record { slots = rw e (omega (arith, o.slots)); end = c.end }
 
-in_group : (p : Program) (m : Progress) → IsUnderWay p m → m.end ≡ None → (k : ℕ) → (advanced p m).slots ≡ suc k → IsInGroup m (advanced p m)
+in_group : (p : Program) (m : Progress) → IsUnderWay p m → m.end ≡ None → (k : ℕ) → (advanced p m).slots ≡ suc k
+    → IsInGroup m (advanced p m)
 unfolding advanced
 in_group p m u none k s = of m.end none s
   where
@@ -115,11 +119,13 @@ rest_ends next rest h = of next.slots refl
     of (suc k) e = h k e
 
 -- With steps enough the group is over.
-to_end_ends : (most : ℕ) (p : Program) (m : Progress) → IsProgram p → IsUnderWay p m → m.end ≡ None → RUN_LIMIT ≤ m.slots + most → (to_group_end most p m).slots ≡ 0
+to_end_ends : (most : ℕ) (p : Program) (m : Progress) → IsProgram p → IsUnderWay p m → m.end ≡ None → RUN_LIMIT ≤ m.slots + most
+    → (to_group_end most p m).slots ≡ 0
 to_end_ends zero p m program u none enough = let few = has_few_slots p m program u in absurd (omega arith)
 to_end_ends (suc most) p m program u none enough =
     rest_ends (advanced p m) (to_group_end most p (advanced p m))
-    (λ k e. let g = in_group p m u none k e in to_end_ends most p (advanced p m) program (advances_under_way p m program u) g.end (omega (arith, g.slots)))
+    (λ k e. let g = in_group p m u none k e in to_end_ends most p (advanced p m) program (advances_under_way p m program u) g.end
+    (omega (arith, g.slots)))
 
 pub advanced_ended : (p : Program) (m : Progress) (e : End) → m.end ≡ Some e → advanced p m ≡ m
 unfolding advanced
@@ -134,7 +140,8 @@ to_end_ended : (most : ℕ) (p : Program) (m : Progress) (e : End) → m.end ≡
 to_end_ended zero p m e is = refl
 to_end_ended (suc most) p m e is =
     let a = advanced_ended p m e is in
-    rest_same (advanced p m).slots m (advanced p m) (to_group_end most p (advanced p m)) a (ap (to_group_end most p) a ∙ to_end_ended most p m e is)
+    rest_same (advanced p m).slots m (advanced p m) (to_group_end most p (advanced p m)) a
+    (ap (to_group_end most p) a ∙ to_end_ended most p m e is)
 
 pub group_ended : (p : Program) (m : Progress) (e : End) → m.end ≡ Some e → group_further p m ≡ m
 unfolding group_further
@@ -149,7 +156,8 @@ unfolding group_further
 group_comes_to_end p m program u none = to_end_ends RUN_LIMIT p m program u none (omega arith)
 
 -- One group further no group is under way.
-pub groups_end : (p : Program) (m : Progress) → IsProgram p → IsUnderWay p m → (m.end ≡ None) ⊎ (m.slots ≡ 0) → (group_further p m).slots ≡ 0
+pub groups_end : (p : Program) (m : Progress) → IsProgram p → IsUnderWay p m → (m.end ≡ None) ⊎ (m.slots ≡ 0)
+    → (group_further p m).slots ≡ 0
 groups_end p m program u (inl none) = group_comes_to_end p m program u none
 groups_end p m program u (inr slots) = of m.end refl
   where

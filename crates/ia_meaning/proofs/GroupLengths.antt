@@ -29,15 +29,18 @@ pub record StandsAfter (p : Program) (before : List Place) (place : Place) : Typ
 no_more : (p : Program) (before : List Place) (place : Place) → IsProgram p → StandsAfter p before place → RUN_LIMIT ≤ length before + 0 → ⊥
 no_more p before place program at enough = let few = program.runs place at.is before at.stand in omega arith
 
-falls_after : (p : Program) (before : List Place) (place : Place) → StandsAfter p before place → FallsOn p place → StandsAfter p (place ∷ before) (place_after place (next_of p.bundles place))
+falls_after : (p : Program) (before : List Place) (place : Place) → StandsAfter p before place → FallsOn p place
+    → StandsAfter p (place ∷ before) (place_after place (next_of p.bundles place))
 falls_after p before place at f = let n = f.next in record { is = n.is; stand = (at.is, n, f.on, at.stand) }
 
 -- The group is over, or its rest is.
-step_over : (p : Program) (s : State) (step : Step) (rest : Group) (h : Option How) → (h ≡ None → IsSome rest.how) → IsSome (group_by p s step h rest).how
+step_over : (p : Program) (s : State) (step : Step) (rest : Group) (h : Option How) → (h ≡ None → IsSome rest.how)
+    → IsSome (group_by p s step h rest).how
 step_over p s step rest (Some how) over = refl
 step_over p s step rest None over = over refl
 
-group_over : (most : ℕ) (p : Program) (s : State) (before : List Place) → IsProgram p → StandsAfter p before s.place → RUN_LIMIT ≤ length before + most → IsSome (group_within most p s).how
+group_over : (most : ℕ) (p : Program) (s : State) (before : List Place) → IsProgram p → StandsAfter p before s.place
+    → RUN_LIMIT ≤ length before + most → IsSome (group_within most p s).how
 group_over zero p s before program at enough = absurd (no_more p before s.place program at enough)
 group_over (suc most) p s before program at enough =
     step_over p s (seq_step p s) (group_within most p (seq_step p s).state) (seq_step p s).how
@@ -53,16 +56,19 @@ pub seq_group_ends : (p : Program) (s : State) → IsProgram p → IsPlaceOf p.b
 seq_group_ends p s program is = group_over RUN_LIMIT p s [] program (record { is = is; stand = tt }) (omega arith)
 
 -- The group is over, or its rest is.
-slot_over : (p : Program) (first : Bool) (g : Gathered) (o : Outcome) (way : Next) (rest : GatheredGroup) → (is_stopped p.bundles g.place ≡ false → way ≡ Falls → IsSome rest.how) → IsSome (gathered_by p first g o way rest).how
+slot_over : (p : Program) (first : Bool) (g : Gathered) (o : Outcome) (way : Next) (rest : GatheredGroup)
+    → (is_stopped p.bundles g.place ≡ false → way ≡ Falls → IsSome rest.how) → IsSome (gathered_by p first g o way rest).how
 slot_over p first g o Falls rest over = of (is_stopped p.bundles g.place) refl
   where
-    of : (b : Bool) → is_stopped p.bundles g.place ≡ b → IsSome (if b then ends_with (gathers first g o (place_after g.place (next_of p.bundles g.place))) g.place how.Falls None else one_more rest).how
+    of : (b : Bool) → is_stopped p.bundles g.place ≡ b → IsSome (if b then ends_with
+        (gathers first g o (place_after g.place (next_of p.bundles g.place))) g.place how.Falls None else one_more rest).how
     of true e = refl
     of false e = over e refl
 slot_over p first g o way rest over = refl
 
 -- The group's next slot goes on to the next place where it falls through and no stop follows.
-next_slot_falls_on : (p : Program) (g : Gathered) → IsPlaceOf p.bundles g.place → is_stopped p.bundles g.place ≡ false → (slot_outcome p g (insn_at p.bundles g.place)).next ≡ Falls → FallsOn p g.place
+next_slot_falls_on : (p : Program) (g : Gathered) → IsPlaceOf p.bundles g.place → is_stopped p.bundles g.place ≡ false
+    → (slot_outcome p g (insn_at p.bundles g.place)).next ≡ Falls → FallsOn p g.place
 next_slot_falls_on p g is runs = of (insn_at p.bundles g.place) refl is
   where
     of : (o : Option Insn) → insn_at p.bundles g.place ≡ o → IsSome o → (slot_outcome p g o).next ≡ Falls → FallsOn p g.place
@@ -73,7 +79,8 @@ gathers_place : (first : Bool) (g : Gathered) (o : Outcome) (place : Place) → 
 gathers_place true g o place = refl
 gathers_place false g o place = refl
 
-gathered_over : (most : ℕ) (p : Program) (begins : Bool) (g : Gathered) (before : List Place) → IsProgram p → StandsAfter p before g.place → RUN_LIMIT ≤ length before + most → IsSome (gathered_within most p begins g).how
+gathered_over : (most : ℕ) (p : Program) (begins : Bool) (g : Gathered) (before : List Place) → IsProgram p → StandsAfter p before g.place
+    → RUN_LIMIT ≤ length before + most → IsSome (gathered_within most p begins g).how
 gathered_over zero p begins g before program at enough = absurd (no_more p before g.place program at enough)
 gathered_over (suc most) p begins g before program at enough =
     let insn = insn_at p.bundles g.place in

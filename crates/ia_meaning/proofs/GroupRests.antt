@@ -42,9 +42,11 @@ pub record IsSameWithMore (most : ℕ) (p : Program) (m : Progress) : Type 0 whe
 same_ended : (next rest other : Progress) → next.slots ≡ 0 → rest_by next.slots next rest ≡ rest_by next.slots next other
 same_ended next rest other e = rw e refl
 
-same_here : (most : ℕ) (p : Program) (m : Progress) (how : How) → m.end ≡ None → (seq_step p m.state).how ≡ Some how → IsSameWithMore (suc most) p m
+same_here : (most : ℕ) (p : Program) (m : Progress) (how : How) → m.end ≡ None → (seq_step p m.state).how ≡ Some how
+    → IsSameWithMore (suc most) p m
 same_here most p m how none e = record {
-  group = same_ended (advanced p m) (to_group_end (suc most) p (advanced p m)) (to_group_end most p (advanced p m)) (ends_here p m how none e);
+  group =
+      same_ended (advanced p m) (to_group_end (suc most) p (advanced p m)) (to_group_end most p (advanced p m)) (ends_here p m how none e);
   event = rw e refl;
   frames = rw e refl;
 }
@@ -61,11 +63,13 @@ same_after most p m same =
     }
 
 -- The group is over here, or goes on.
-same_by : (most : ℕ) (p : Program) (m : Progress) → m.end ≡ None → ((seq_step p m.state).how ≡ None → IsSameWithMore most p (advanced p m)) → (h : Option How) → (seq_step p m.state).how ≡ h → IsSameWithMore (suc most) p m
+same_by : (most : ℕ) (p : Program) (m : Progress) → m.end ≡ None → ((seq_step p m.state).how ≡ None → IsSameWithMore most p (advanced p m))
+    → (h : Option How) → (seq_step p m.state).how ≡ h → IsSameWithMore (suc most) p m
 same_by most p m none on (Some how) e = same_here most p m how none e
 same_by most p m none on None e = same_after most p m (on e)
 
-same_with_more : (most : ℕ) (p : Program) (m : Progress) → IsProgram p → IsUnderWay p m → m.end ≡ None → RUN_LIMIT ≤ m.slots + most → IsSameWithMore most p m
+same_with_more : (most : ℕ) (p : Program) (m : Progress) → IsProgram p → IsUnderWay p m → m.end ≡ None → RUN_LIMIT ≤ m.slots + most
+    → IsSameWithMore most p m
 same_with_more zero p m program u none enough = let few = has_few_slots p m program u in absurd (omega arith)
 same_with_more (suc most) p m program u none enough =
     same_by most p m none
@@ -104,5 +108,9 @@ unfolding group_further event_further group_frames
 rest_of_group p m program u none more =
     let g = step_in_group p m none (how_within p m none more) in
     let r = rest_after_step (RUN_LIMIT - 1) p m none more in
-    let s = same_with_more (RUN_LIMIT - 1) p (advanced p m) program (advances_under_way p m program u) g.end (omega (arith, g.slots)) in
-    (s.group ∙ sym r.group, s.event ∙ sym r.event, ap (λ (rest : List (ℕ × ℕ)). (seq_step p m.state).frames ++ rest) s.frames ∙ sym r.frames)
+    let s = same_with_more (RUN_LIMIT - 1) p (advanced p m) program (advances_under_way p m program u) g.end (omega (arith, g.slots)) in (
+      s.group ∙ sym r.group,
+      s.event ∙ sym r.event,
+      ap (λ (rest : List (ℕ × ℕ)). (seq_step p m.state).frames ++ rest) s.frames
+          ∙ sym r.frames,
+    )

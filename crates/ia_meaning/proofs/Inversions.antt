@@ -45,10 +45,15 @@ abbrev pub MayInvalidate : List AlatEntry → Spot → List AlatEntry → Type 0
 MayInvalidate es d left = (left ≡ es) ⊎ (left ≡ invalidated es d)
 
 -- Of a load whose registers are found.
-pub record LoadCases (Q : Outcome → Type 0) (kind : LoadKind) (base : Cell) (e : AlatEntry) (m : Memory) (unat : ℕ) (ws : List Write) : Type 0 where
-  pub loads : base.nat ≡ false → access_fault m.bytes e.address e.size ≡ None → Q (falls (set_spot e.key (record { value = loaded m.bytes e.address e.size; nat = load_nat kind e.address unat }) ws) (record m { alat = load_alat kind e m.alat }))
-  pub defers : is_speculative kind ≡ true → (es : List AlatEntry) → MayInvalidate m.alat e.key es → Q (falls (set_spot e.key (record { value = 0; nat = true }) ws) (record m { alat = es }))
-  pub hits : base.nat ≡ false → is_check kind ≡ true → has_hit m.alat e ≡ true → (es : List AlatEntry) → MayInvalidate m.alat e.key es → Q (falls ws (record m { alat = es }))
+pub record LoadCases (Q : Outcome → Type 0) (kind : LoadKind) (base : Cell) (e : AlatEntry) (m : Memory) (unat : ℕ)
+    (ws : List Write) : Type 0 where
+  pub loads : base.nat ≡ false → access_fault m.bytes e.address e.size ≡ None
+      → Q (falls (set_spot e.key (record { value = loaded m.bytes e.address e.size; nat = load_nat kind e.address unat }) ws)
+      (record m { alat = load_alat kind e m.alat }))
+  pub defers : is_speculative kind ≡ true → (es : List AlatEntry) → MayInvalidate m.alat e.key es
+      → Q (falls (set_spot e.key (record { value = 0; nat = true }) ws) (record m { alat = es }))
+  pub hits : base.nat ≡ false → is_check kind ≡ true → has_hit m.alat e ≡ true → (es : List AlatEntry) → MayInvalidate m.alat e.key es
+      → Q (falls ws (record m { alat = es }))
 
 -- Of a move of x to an application register.
 abbrev pub ApplicationCases : (Outcome → Type 0) → Ar → ℕ → Memory → Type 0
@@ -87,7 +92,8 @@ ActCases Q s (ToApplication ar r2 w) r m unat =
     × ((a : Cell) → look r r2 ≡ Some a → a.nat ≡ false → ApplicationCases Q ar (moved w a.value) m)
 ActCases Q s (FromMemory size kind r1 r3 u) r m unat =
     Fails Q m
-    × ((d e : Spot) (base more : Cell) → spot r.frame r1 ≡ Some d → spot r.frame r3 ≡ Some e → look r r3 ≡ Some base → look r (update_register u) ≡ Some more
+    × ((d e : Spot) (base more : Cell) → spot r.frame r1 ≡ Some d → spot r.frame r3 ≡ Some e → look r r3 ≡ Some base
+    → look r (update_register u) ≡ Some more
     → LoadCases Q kind base (record { key = d; address = base.value; size = size }) m unat (base_writes u e base more))
 ActCases Q s (ToMemory size kind r3 r2 u) r m unat =
     Fails Q m
@@ -106,7 +112,8 @@ ActCases Q s (CheckNat r2 disp) r m unat =
 ActCases Q s (CheckAlat clear r1 disp) r m unat =
     Fails Q m
     × ((d : Spot) → spot r.frame r1 ≡ Some d → has_entry m.alat d ≡ false → Q (goes [] m (target_of s.bundle disp)))
-    × ((d : Spot) → spot r.frame r1 ≡ Some d → has_entry m.alat d ≡ true → (es : List AlatEntry) → MayInvalidate m.alat d es → Q (falls [] (record m { alat = es })))
+    × ((d : Spot) → spot r.frame r1 ≡ Some d → has_entry m.alat d ≡ true → (es : List AlatEntry) → MayInvalidate m.alat d es
+    → Q (falls [] (record m { alat = es })))
 ActCases Q s InvalidateAll r m unat = Q (falls [] (record m { alat = [] }))
 ActCases Q s (Invalidate r1) r m unat =
     Fails Q m
@@ -147,7 +154,8 @@ either Q true x y h k = h refl
 either Q false x y h k = k refl
 
 case_computed : (Q : Outcome → Type 0) (f : ℕ → ℕ → ℕ) (o : Option Spot) (x y : Option Cell) (m : Memory) → Fails Q m
-    → ((d : Spot) (a b : Cell) → o ≡ Some d → x ≡ Some a → y ≡ Some b → Q (falls (set_spot d (record { value = f a.value b.value; nat = a.nat || b.nat }) []) m))
+    → ((d : Spot) (a b : Cell) → o ≡ Some d → x ≡ Some a → y ≡ Some b
+    → Q (falls (set_spot d (record { value = f a.value b.value; nat = a.nat || b.nat }) []) m))
     → Q (computed f o x y m)
 case_computed Q f (Some d) (Some a) (Some b) m h k = k d a b refl refl refl
 case_computed Q f _ _ _ m h k = h OutOfFrame
@@ -157,7 +165,8 @@ case_fetched : (Q : Outcome → Type 0) (o : Option Spot) (x : ℕ) (m : Memory)
 case_fetched Q (Some d) x m h k = k d refl
 case_fetched Q None x m h k = h OutOfFrame
 
-case_test : (Q : Outcome → Type 0) (kind : CmpKind) (p q : Option ℕ) (f : Cell → Cell → Option Bool) (x y : Option Cell) (m : Memory) → Fails Q m
+case_test : (Q : Outcome → Type 0) (kind : CmpKind) (p q : Option ℕ) (f : Cell → Cell → Option Bool) (x y : Option Cell) (m : Memory)
+    → Fails Q m
     → ((a b : Cell) → x ≡ Some a → y ≡ Some b → Q (falls (test_writes kind p q (f a b)) m)) → Q (test_made kind p q f x y m)
 case_test Q kind p q f (Some a) (Some b) m h k = k a b refl refl
 case_test Q kind p q f _ _ m h k = h OutOfFrame
@@ -172,7 +181,8 @@ case_branch : (Q : Outcome → Type 0) (b1 : ℕ) (x : Option Cell) (m : Memory)
 case_branch Q b1 (Some a) m h k = either Q a.nat _ _ (λ _. h NatConsumed) (k a refl)
 case_branch Q b1 None m h k = h OutOfFrame
 
-case_written : (Q : Outcome → Type 0) (ar : Ar) (x : ℕ) (m : Memory) → Fails Q m → ApplicationCases Q ar x m → Q (application_written ar x m)
+case_written : (Q : Outcome → Type 0) (ar : Ar) (x : ℕ) (m : Memory) → Fails Q m → ApplicationCases Q ar x m
+    → Q (application_written ar x m)
 case_written Q Unat x m h k = k
 case_written Q Pfs x m h k = either Q (has_reserved_zeros x) _ _ k (λ _. h ReservedField)
 case_written Q Lc x m h k = k
@@ -184,21 +194,26 @@ case_application Q ar f (Some a) m h k = either Q a.nat _ _ (λ _. h NatConsumed
 case_application Q ar f None m h k = h OutOfFrame
 
 case_deferred : (Q : Outcome → Type 0) (kind : LoadKind) (d : Spot) (m : Memory) (ws : List Write)
-    → ((es : List AlatEntry) → MayInvalidate m.alat d es → Q (falls (set_spot d (record { value = 0; nat = true }) ws) (record m { alat = es }))) → Q (deferred kind d m ws)
+    → ((es : List AlatEntry) → MayInvalidate m.alat d es → Q (falls (set_spot d (record { value = 0; nat = true }) ws)
+    (record m { alat = es }))) → Q (deferred kind d m ws)
 case_deferred Q load.Sa d m ws h = h (invalidated m.alat d) (inr refl)
 case_deferred Q _ d m ws h = h m.alat (inl refl)
 
-case_failed : (Q : Outcome → Type 0) (cause : FaultKind) (kind : LoadKind) (base : Cell) (e : AlatEntry) (m : Memory) (unat : ℕ) (ws : List Write)
+case_failed : (Q : Outcome → Type 0) (cause : FaultKind) (kind : LoadKind) (base : Cell) (e : AlatEntry) (m : Memory) (unat : ℕ)
+    (ws : List Write)
     → Fails Q m → LoadCases Q kind base e m unat ws → Q (load_failed cause kind e.key m ws)
-case_failed Q cause kind base e m unat ws h k = either Q (is_speculative kind) _ _ (λ s. case_deferred Q kind e.key m ws (k.defers s)) (λ _. h cause)
+case_failed Q cause kind base e m unat ws h k =
+    either Q (is_speculative kind) _ _ (λ s. case_deferred Q kind e.key m ws (k.defers s)) (λ _. h cause)
 
 case_hit : (Q : Outcome → Type 0) (kind : LoadKind) (d : Spot) (m : Memory) (ws : List Write)
     → ((es : List AlatEntry) → MayInvalidate m.alat d es → Q (falls ws (record m { alat = es }))) → Q (load_hit kind d m ws)
 case_hit Q load.CNc d m ws h = h m.alat (inl refl)
 case_hit Q _ d m ws h = h (invalidated m.alat d) (inr refl)
 
-case_tried : (Q : Outcome → Type 0) (o : Option FaultKind) (kind : LoadKind) (base : Cell) (e : AlatEntry) (m : Memory) (unat : ℕ) (ws : List Write)
-    → access_fault m.bytes e.address e.size ≡ o → base.nat ≡ false → Fails Q m → LoadCases Q kind base e m unat ws → Q (load_tried o kind e m unat ws)
+case_tried : (Q : Outcome → Type 0) (o : Option FaultKind) (kind : LoadKind) (base : Cell) (e : AlatEntry) (m : Memory) (unat : ℕ)
+    (ws : List Write)
+    → access_fault m.bytes e.address e.size ≡ o → base.nat ≡ false → Fails Q m → LoadCases Q kind base e m unat ws
+    → Q (load_tried o kind e m unat ws)
 case_tried Q None kind base e m unat ws is n h k = k.loads n is
 case_tried Q (Some cause) kind base e m unat ws is n h k = case_failed Q cause kind base e m unat ws h k
 
@@ -209,8 +224,10 @@ case_checked Q kind base e m unat ws n h k =
     (λ t. let both = and_parts (is_check kind) (has_hit m.alat e) t in case_hit Q kind e.key m ws (k.hits n both.0 both.1))
     (λ _. case_tried Q (access_fault m.bytes e.address e.size) kind base e m unat ws refl n h k)
 
-case_load : (Q : Outcome → Type 0) (size : ℕ) (kind : LoadKind) (u : Update) (o p : Option Spot) (x y : Option Cell) (m : Memory) (unat : ℕ) → Fails Q m
-    → ((d e : Spot) (base more : Cell) → o ≡ Some d → p ≡ Some e → x ≡ Some base → y ≡ Some more → LoadCases Q kind base (record { key = d; address = base.value; size = size }) m unat (base_writes u e base more))
+case_load : (Q : Outcome → Type 0) (size : ℕ) (kind : LoadKind) (u : Update) (o p : Option Spot) (x y : Option Cell) (m : Memory) (unat : ℕ)
+    → Fails Q m
+    → ((d e : Spot) (base more : Cell) → o ≡ Some d → p ≡ Some e → x ≡ Some base → y ≡ Some more
+    → LoadCases Q kind base (record { key = d; address = base.value; size = size }) m unat (base_writes u e base more))
     → Q (from_memory size kind u o p x y m unat)
 case_load Q size kind u (Some d) (Some e) (Some base) (Some more) m unat h k =
     let entry : AlatEntry = record { key = d; address = base.value; size = size } in
@@ -226,12 +243,15 @@ no_nat false false t h = (refl, inl refl)
 no_nat false true true h = (refl, inr refl)
 no_nat false true false h = absurd (cc)
 
-case_faults_or : (Q : Outcome → Type 0) (o : Option FaultKind) (m : Memory) (made : Outcome) → Fails Q m → (o ≡ None → Q made) → Q (faults_or o m made)
+case_faults_or : (Q : Outcome → Type 0) (o : Option FaultKind) (m : Memory) (made : Outcome) → Fails Q m → (o ≡ None → Q made)
+    → Q (faults_or o m made)
 case_faults_or Q None m made h k = k refl
 case_faults_or Q (Some cause) m made h k = h cause
 
-case_store : (Q : Outcome → Type 0) (size : ℕ) (kind : StoreKind) (u : Update) (o : Option Spot) (y z : Option Cell) (m : Memory) → Fails Q m
-    → ((e : Spot) (base x : Cell) → o ≡ Some e → y ≡ Some base → z ≡ Some x → base.nat ≡ false → (x.nat ≡ false) ⊎ (takes_nat kind ≡ true) → access_fault m.bytes base.value size ≡ None → Q (store_made size kind base.value x m (base_writes u e base zero_cell)))
+case_store : (Q : Outcome → Type 0) (size : ℕ) (kind : StoreKind) (u : Update) (o : Option Spot) (y z : Option Cell) (m : Memory)
+    → Fails Q m
+    → ((e : Spot) (base x : Cell) → o ≡ Some e → y ≡ Some base → z ≡ Some x → base.nat ≡ false → (x.nat ≡ false) ⊎ (takes_nat kind ≡ true)
+    → access_fault m.bytes base.value size ≡ None → Q (store_made size kind base.value x m (base_writes u e base zero_cell)))
     → Q (to_memory size kind u o y z m)
 case_store Q size kind u (Some e) (Some base) (Some x) m h k =
     either Q (base.nat || (x.nat && not (takes_nat kind))) _ _ (λ _. h NatConsumed)
@@ -240,7 +260,8 @@ case_store Q size kind u (Some e) (Some base) (Some x) m h k =
 case_store Q size kind u _ _ _ m h k = h OutOfFrame
 
 case_exchange : (Q : Outcome → Type 0) (size : ℕ) (inc : Option ℤ) (o : Option Spot) (y z : Option Cell) (m : Memory) → Fails Q m
-    → ((d : Spot) (base x : Cell) → o ≡ Some d → y ≡ Some base → z ≡ Some x → base.nat ≡ false → x.nat ≡ false → access_fault m.bytes base.value size ≡ None → Q (exchange_made size inc d base.value x.value m))
+    → ((d : Spot) (base x : Cell) → o ≡ Some d → y ≡ Some base → z ≡ Some x → base.nat ≡ false → x.nat ≡ false
+    → access_fault m.bytes base.value size ≡ None → Q (exchange_made size inc d base.value x.value m))
     → Q (exchange size inc o y z m)
 case_exchange Q size inc (Some d) (Some base) (Some x) m h k =
     either Q (base.nat || x.nat) _ _ (λ _. h NatConsumed)
@@ -249,23 +270,27 @@ case_exchange Q size inc (Some d) (Some base) (Some x) m h k =
 case_exchange Q size inc _ _ _ m h k = h OutOfFrame
 
 case_check_nat : (Q : Outcome → Type 0) (bundle : ℕ) (x : Option Cell) (m : Memory) → Fails Q m
-    → ((a : Cell) → x ≡ Some a → a.nat ≡ true → Q (goes [] m bundle)) → ((a : Cell) → x ≡ Some a → a.nat ≡ false → Q (falls [] m)) → Q (check_nat bundle x m)
+    → ((a : Cell) → x ≡ Some a → a.nat ≡ true → Q (goes [] m bundle)) → ((a : Cell) → x ≡ Some a → a.nat ≡ false → Q (falls [] m))
+    → Q (check_nat bundle x m)
 case_check_nat Q bundle (Some a) m h k l = either Q a.nat _ _ (k a refl) (l a refl)
 case_check_nat Q bundle None m h k l = h OutOfFrame
 
-case_clear : (Q : Outcome → Type 0) (clear : Bool) (d : Spot) (m : Memory) → ((es : List AlatEntry) → MayInvalidate m.alat d es → Q (falls [] (record m { alat = es })))
+case_clear : (Q : Outcome → Type 0) (clear : Bool) (d : Spot) (m : Memory)
+    → ((es : List AlatEntry) → MayInvalidate m.alat d es → Q (falls [] (record m { alat = es })))
     → Q (falls [] (if clear then record m { alat = invalidated m.alat d } else m))
 case_clear Q true d m h = h (invalidated m.alat d) (inr refl)
 case_clear Q false d m h = h m.alat (inl refl)
 
 case_check_alat : (Q : Outcome → Type 0) (clear : Bool) (bundle : ℕ) (o : Option Spot) (m : Memory) → Fails Q m
     → ((d : Spot) → o ≡ Some d → has_entry m.alat d ≡ false → Q (goes [] m bundle))
-    → ((d : Spot) → o ≡ Some d → has_entry m.alat d ≡ true → (es : List AlatEntry) → MayInvalidate m.alat d es → Q (falls [] (record m { alat = es })))
+    → ((d : Spot) → o ≡ Some d → has_entry m.alat d ≡ true → (es : List AlatEntry) → MayInvalidate m.alat d es
+    → Q (falls [] (record m { alat = es })))
     → Q (check_alat clear bundle o m)
 case_check_alat Q clear bundle (Some d) m h k l = either Q (has_entry m.alat d) _ _ (λ t. case_clear Q clear d m (l d refl t)) (k d refl)
 case_check_alat Q clear bundle None m h k l = h OutOfFrame
 
-case_invalidate : (Q : Outcome → Type 0) (o : Option Spot) (m : Memory) → Fails Q m → ((d : Spot) → o ≡ Some d → Q (falls [] (record m { alat = invalidated m.alat d }))) → Q (invalidate o m)
+case_invalidate : (Q : Outcome → Type 0) (o : Option Spot) (m : Memory) → Fails Q m
+    → ((d : Spot) → o ≡ Some d → Q (falls [] (record m { alat = invalidated m.alat d }))) → Q (invalidate o m)
 case_invalidate Q (Some d) m h k = k d refl
 case_invalidate Q None m h k = h OutOfFrame
 
@@ -274,7 +299,8 @@ same_or_zero a b true h = inr refl
 same_or_zero a b false h = inl (grind (arith, nat_tests))
 
 case_allocated : (Q : Outcome → Type 0) (old new : FrameShape) (o : Option Spot) (pfs : ℕ) (m : Memory) → Fails Q m
-    → ((d : Spot) → o ≡ Some d → (old.sor ≡ new.sor) ⊎ (has_zero_bases old ≡ true) → new.base + new.sof ≤ STACK_LIMIT → Q (falls (SetFrame Resized new ∷ set_spot d (record { value = pfs; nat = false }) []) m))
+    → ((d : Spot) → o ≡ Some d → (old.sor ≡ new.sor) ⊎ (has_zero_bases old ≡ true) → new.base + new.sof ≤ STACK_LIMIT
+    → Q (falls (SetFrame Resized new ∷ set_spot d (record { value = pfs; nat = false }) []) m))
     → Q (allocated old new o pfs m)
 case_allocated Q old new (Some d) pfs m h k =
     either Q (not (old.sor == new.sor) && not (has_zero_bases old)) _ _ (λ _. h ReservedField)
@@ -285,26 +311,32 @@ case_allocated Q old new (Some d) pfs m h k =
     not_above n l = grind (arith, nat_tests)
 case_allocated Q old new None pfs m h k = h OutOfFrame
 
-case_lands : (Q : Outcome → Type 0) (ws : List Write) (m : Memory) (o : Result ℕ FaultKind) → Fails Q m → ((to : ℕ) → o ≡ Ok to → Q (goes ws m to)) → Q (lands ws m o)
+case_lands : (Q : Outcome → Type 0) (ws : List Write) (m : Memory) (o : Result ℕ FaultKind) → Fails Q m
+    → ((to : ℕ) → o ≡ Ok to → Q (goes ws m to)) → Q (lands ws m o)
 case_lands Q ws m (Ok to) h k = k to refl
 case_lands Q ws m (Err kind) h k = h kind
 
 case_return : (Q : Outcome → Type 0) (x : Option FaultKind) (f : FrameShape) (ec : ℕ) (o : Result ℕ FaultKind) (m : Memory) → Fails Q m
-    → ((to : ℕ) → x ≡ None → o ≡ Ok to → Q (goes (SetFrame Resized f ∷ SetEc ec ∷ []) m to)) → Q (faults_or x m (lands (SetFrame Resized f ∷ SetEc ec ∷ []) m o))
+    → ((to : ℕ) → x ≡ None → o ≡ Ok to → Q (goes (SetFrame Resized f ∷ SetEc ec ∷ []) m to))
+    → Q (faults_or x m (lands (SetFrame Resized f ∷ SetEc ec ∷ []) m o))
 case_return Q x f ec o m h k = case_faults_or Q x m _ h (λ free. case_lands Q _ m o h (λ to. k to free))
 
-case_turn : (Q : Outcome → Type 0) (t : Turn) (f : FrameShape) (bundle : ℕ) (m : Memory) → TurnCases Q t f bundle m → Q (turned t f bundle m)
+case_turn : (Q : Outcome → Type 0) (t : Turn) (f : FrameShape) (bundle : ℕ) (m : Memory) → TurnCases Q t f bundle m
+    → Q (turned t f bundle m)
 case_turn Q t f bundle m h = either Q t.taken _ _ h.0 h.1
 
 -- What holds in each case of an action holds of its effect.
-pub act_cases : (Q : Outcome → Type 0) (s : Site) (action : Action) (r : Registers) (m : Memory) (unat : ℕ) → ActCases Q s action r m unat → Q (act s action r m unat)
+pub act_cases : (Q : Outcome → Type 0) (s : Site) (action : Action) (r : Registers) (m : Memory) (unat : ℕ) → ActCases Q s action r m unat
+    → Q (act s action r m unat)
 act_cases Q s (Compute r1 r2 r3 f) r m unat h = case_computed Q (value_of f) (spot r.frame r1) (look r r2) (look r r3) m h.0 h.1
 act_cases Q s (Fetch r1 source) r m unat h = case_fetched Q (spot r.frame r1) (source_value s.bundle r source) m h.0 h.1
-act_cases Q s (Test kind p1 p2 r2 r3 c) r m unat h = case_test Q kind (predicate_spot r.frame p1) (predicate_spot r.frame p2) (result_of c) (look r r2) (look r r3) m h.0 h.1
+act_cases Q s (Test kind p1 p2 r2 r3 c) r m unat h =
+    case_test Q kind (predicate_spot r.frame p1) (predicate_spot r.frame p2) (result_of c) (look r r2) (look r r3) m h.0 h.1
 act_cases Q s (ToPredicates r2 mask w) r m unat h = case_predicates Q (moved w) mask (look r r2) m h.0 h.1
 act_cases Q s (ToBranch b1 r2) r m unat h = case_branch Q b1 (look r r2) m h.0 h.1
 act_cases Q s (ToApplication ar r2 w) r m unat h = case_application Q ar (moved w) (look r r2) m h.0 h.1
-act_cases Q s (FromMemory size kind r1 r3 u) r m unat h = case_load Q size kind u (spot r.frame r1) (spot r.frame r3) (look r r3) (look r (update_register u)) m unat h.0 h.1
+act_cases Q s (FromMemory size kind r1 r3 u) r m unat h =
+    case_load Q size kind u (spot r.frame r1) (spot r.frame r3) (look r r3) (look r (update_register u)) m unat h.0 h.1
 act_cases Q s (ToMemory size kind r3 r2 u) r m unat h = case_store Q size kind u (spot r.frame r3) (look r r3) (look r r2) m h.0 h.1
 act_cases Q s (Exchange size r1 r3 r2 inc) r m unat h = case_exchange Q size inc (spot r.frame r1) (look r r3) (look r r2) m h.0 h.1
 act_cases Q s (CheckNat r2 disp) r m unat h = case_check_nat Q (target_of s.bundle disp) (look r r2) m h.0 h.1 h.2
@@ -326,18 +358,21 @@ act_cases Q s (Stop unit imm) r m unat h = h
 act_cases Q s (Idle unit) r m unat h = h
 
 case_skipped : (Q : Outcome → Type 0) (kind : CmpKind) (p q : Option ℕ) (m : Memory)
-    → (kind ≡ Unc → Q (falls (set_predicate p false (set_predicate q false [])) m)) → (kind ≢ Unc → Q (falls [] m)) → Q (test_skipped kind p q m)
+    → (kind ≡ Unc → Q (falls (set_predicate p false (set_predicate q false [])) m)) → (kind ≢ Unc → Q (falls [] m))
+    → Q (test_skipped kind p q m)
 case_skipped Q Unc p q m h k = h refl
 case_skipped Q _ p q m h k = k (λ e. absurd (cc))
 
 -- What holds in each case of one whose qualifying predicate is 0 holds of its effect.
-pub skip_cases : (Q : Outcome → Type 0) (s : Site) (action : Action) (r : Registers) (m : Memory) → SkipCases Q s action r m → Q (skip s action r m)
+pub skip_cases : (Q : Outcome → Type 0) (s : Site) (action : Action) (r : Registers) (m : Memory) → SkipCases Q s action r m
+    → Q (skip s action r m)
 skip_cases Q s (Test kind p1 p2 r2 r3 c) r m h = case_skipped Q kind (predicate_spot r.frame p1) (predicate_spot r.frame p2) m h.0 h.1
 skip_cases Q s (Loop kind disp) r m h = case_turn Q (turn_of kind false r.lc r.ec) r.frame (target_of s.bundle disp) m h
 skip_cases Q s _ r m h = h
 
 -- Both together.
 pub guarded_cases : (Q : Outcome → Type 0) (s : Site) (qp : ℕ) (action : Action) (r : Registers) (m : Memory) (unat : ℕ)
-    → (holds r qp ≡ true → ActCases Q s action r m unat) → (holds r qp ≡ false → SkipCases Q s action r m) → Q (guarded s qp action r m unat)
+    → (holds r qp ≡ true → ActCases Q s action r m unat) → (holds r qp ≡ false → SkipCases Q s action r m)
+    → Q (guarded s qp action r m unat)
 guarded_cases Q s qp action r m unat h k =
     either Q (holds r qp) _ _ (λ t. act_cases Q s action r m unat (h t)) (λ t. skip_cases Q s action r m (k t))

@@ -15,10 +15,14 @@ lane_fits PcmpGt width x y = let some = pow_pos width in grind arith
 pub lanes_fit : (f : LaneFn) (width a b n count : ℕ) → lanes_from f width a b n count + 2 ^ (width * n) ≤ 2 ^ (width * (n + count))
 lanes_fit f width a b n zero = let e : n + 0 ≡ n = omega arith in rw e (omega arith)
 lanes_fit f width a b n (suc count) =
-    let rest : lanes_from f width a b (suc n) count + 2 ^ (width * suc n) ≤ 2 ^ (width * (suc n + count)) = lanes_fit f width a b (suc n) count in
+    let rest : lanes_from f width a b (suc n) count + 2 ^ (width * suc n) ≤ 2 ^ (width * (suc n + count)) =
+    lanes_fit f width a b (suc n) count in
     let same : suc n + count ≡ n + suc count = omega arith in
     let q = 2 ^ (width * n) in
     let some : 0 < q = pow_pos (width * n) in
-    let next : 2 ^ (width * suc n) ≡ q * 2 ^ width = ap (λ k. 2 ^ k) (let e : width * suc n ≡ width * n + width = omega arith in e) ∙ pow-add 2 (width * n) width in
-    let fits = mul-add-lt (lane_value f width (lane width n a) (lane width n b)) q (q - 1) (2 ^ width) (lane_fits f width (lane width n a) (lane width n b)) (omega (arith, some)) in
+    let next : 2 ^ (width * suc n) ≡ q * 2 ^ width =
+    ap (λ k. 2 ^ k) (let e : width * suc n ≡ width * n + width = omega arith in e) ∙ pow-add 2 (width * n) width in
+    let fits =
+    mul-add-lt (lane_value f width (lane width n a) (lane width n b)) q (q - 1) (2 ^ width)
+    (lane_fits f width (lane width n a) (lane width n b)) (omega (arith, some)) in
     omega (arith, rw same at rest, next, fits, some)

@@ -61,7 +61,8 @@ names_f : (qp : ℕ) (x : Op) → AsRow rows_f (row_index_f (opcode_of x)) (reco
 unfolding rows_f listed
 names_f qp x h = grind arith
 
-names_x : (qp : ℕ) (x : Op) → AsRow rows_x (row_index_x (opcode_of (slot_op x))) (record { qp = qp; op = slot_op x }) → (qp < 64) × HasNames qp (action_of x)
+names_x : (qp : ℕ) (x : Op) → AsRow rows_x (row_index_x (opcode_of (slot_op x))) (record { qp = qp; op = slot_op x })
+    → (qp < 64) × HasNames qp (action_of x)
 unfolding rows_x listed
 names_x qp x h = grind arith
 

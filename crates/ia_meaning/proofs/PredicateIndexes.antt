@@ -17,7 +17,8 @@ holds_at_place r zero h = absurd (h refl)
 holds_at_place r (suc p) h = refl
 
 -- A predicate is the same where the same stands at its place.
-pub holds_by_place : (now r : Registers) (p : ℕ) → (p ≢ 0 → get_or now.predicates (predicate_index now.frame p) false ≡ get_or r.predicates (predicate_index r.frame p) false) → holds now p ≡ holds r p
+pub holds_by_place : (now r : Registers) (p : ℕ) → (p ≢ 0 → get_or now.predicates (predicate_index now.frame p) false
+    ≡ get_or r.predicates (predicate_index r.frame p) false) → holds now p ≡ holds r p
 unfolding holds
 holds_by_place now r zero e = refl
 holds_by_place now r (suc p) e = e (λ z. absurd (omega arith))

@@ -14,4 +14,6 @@ length-resized (suc n) (c ∷ cells) = ap suc (length-resized n cells)
 pub words-resized : (n : ℕ) (cells : List Cell) → AreCells cells → AreCells (resized n cells)
 words-resized zero cells h = All-nil (λ c. IsWord c.value)
 words-resized (suc n) [] h = All-cons (λ c. IsWord c.value) zero_cell (resized n []) (omega arith) (words-resized n [] h)
-words-resized (suc n) (c ∷ cells) h = All-cons (λ x. IsWord x.value) c (resized n cells) (All-head (λ x. IsWord x.value) c cells h) (words-resized n cells (All-tail (λ x. IsWord x.value) c cells h))
+words-resized (suc n) (c ∷ cells) h =
+    All-cons (λ x. IsWord x.value) c (resized n cells) (All-head (λ x. IsWord x.value) c cells h)
+    (words-resized n cells (All-tail (λ x. IsWord x.value) c cells h))

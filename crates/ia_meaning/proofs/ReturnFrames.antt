@@ -22,7 +22,8 @@ none_of_three a b c good under over e = grind arith
 
 -- A return that none of the three faults refuses, whatever they are.
 pub unrefused : {Fault : Type 0} (a b c : Fault) (limit base : ℕ) (f : FrameShape)
-    → (if not (is_frame f) then Some a else if nat_lt base f.sol then Some b else if nat_lt limit (base - f.sol + f.sof) then Some c else None) ≡ None
+    → (if not (is_frame f) then Some a else if nat_lt base f.sol then Some b else if nat_lt limit (base - f.sol + f.sof) then Some
+    c else None) ≡ None
     → MayReturn limit base f
 unrefused a b c limit base f e =
     let tests = none_of_three a b c (is_frame f) (nat_lt base f.sol) (nat_lt limit (base - f.sol + f.sof)) e in

@@ -55,7 +55,8 @@ bundle_decides : (o : Option Bundle) → Decides (holds_call o) (IsSomeAnd o (λ
 bundle_decides None = ((λ h. absurd (cc)), (λ h. absurd h))
 bundle_decides (Some b) = slots_decide b.slots
 
-after_call_decides : (bundles : List Bundle) (n : ℕ) → Decides (nat_le 1 n && holds_call (slice_get bundles (n - 1))) (IsAfterCall bundles n)
+after_call_decides : (bundles : List Bundle) (n : ℕ) → Decides (nat_le 1 n && holds_call (slice_get bundles (n - 1)))
+    (IsAfterCall bundles n)
 after_call_decides bundles n =
     Decides-and (nat_le 1 n) (holds_call (slice_get bundles (n - 1))) (Decides-ltb 0 n) (bundle_decides (slice_get bundles (n - 1)))
 
@@ -64,13 +65,19 @@ pub entry_decides : (p : Program) (n : ℕ) → IsTrue (is_entry p n) ↔ IsEntr
 unfolding is_entry
 entry_decides p n = ((λ h. let e = both.0 h in record { inside = e.0; kind = e.1 }), (λ e. both.1 (e.inside, e.kind)))
   where
-    kinds : Decides ((n == 0) || (is_one_of n p.entries || (nat_le 1 n && holds_call (slice_get p.bundles (n - 1))))) ((n ≡ 0) ⊎ (Contains p.entries n ⊎ IsAfterCall p.bundles n))
+    kinds : Decides ((n == 0) || (is_one_of n p.entries || (nat_le 1 n && holds_call (slice_get p.bundles (n - 1)))))
+        ((n ≡ 0) ⊎ (Contains p.entries n ⊎ IsAfterCall p.bundles n))
     kinds =
         Decides-or (n == 0) (is_one_of n p.entries || (nat_le 1 n && holds_call (slice_get p.bundles (n - 1)))) (Decides-eqb n 0)
-        (Decides-or (is_one_of n p.entries) (nat_le 1 n && holds_call (slice_get p.bundles (n - 1))) (one_of_decides n p.entries) (after_call_decides p.bundles n))
+        (Decides-or (is_one_of n p.entries) (nat_le 1 n && holds_call (slice_get p.bundles (n - 1))) (one_of_decides n p.entries)
+        (after_call_decides p.bundles n))
 
-    both : Decides (nat_lt n (length p.bundles) && ((n == 0) || (is_one_of n p.entries || (nat_le 1 n && holds_call (slice_get p.bundles (n - 1)))))) ((n < length p.bundles) × ((n ≡ 0) ⊎ (Contains p.entries n ⊎ IsAfterCall p.bundles n)))
-    both = Decides-and (nat_lt n (length p.bundles)) ((n == 0) || (is_one_of n p.entries || (nat_le 1 n && holds_call (slice_get p.bundles (n - 1))))) (Decides-ltb n (length p.bundles)) kinds
+    both : Decides (nat_lt n (length p.bundles) && ((n == 0) || (is_one_of n p.entries
+        || (nat_le 1 n && holds_call (slice_get p.bundles (n - 1))))))
+        ((n < length p.bundles) × ((n ≡ 0) ⊎ (Contains p.entries n ⊎ IsAfterCall p.bundles n)))
+    both =
+        Decides-and (nat_lt n (length p.bundles)) ((n == 0) || (is_one_of n p.entries
+        || (nat_le 1 n && holds_call (slice_get p.bundles (n - 1))))) (Decides-ltb n (length p.bundles)) kinds
 
 -- A test that says whether a bundle is an entry is that of entries.
 pub entry_same : (p : Program) (n : ℕ) (b : Bool) → IsTrue b ↔ IsEntry p n → b ≡ is_entry p n
@@ -98,11 +105,13 @@ stop_same bundles place b h = same_from_decides b (is_stopped bundles place) h (
 abbrev pub FitsNext : List Bundle → Place → Option Place → Type 0
 FitsNext bundles place o = MatchOption o ((q : Place) → IsPlaceOf bundles q → IsBefore place q → ⊥) (λ next. IsNext bundles place next)
 
-next_in_bundle : (bundles : List Bundle) (place : Place) (b : Bundle) → slice_get bundles place.bundle ≡ Some b → FitsNext bundles place (next_in (Some b) (length bundles) place)
+next_in_bundle : (bundles : List Bundle) (place : Place) (b : Bundle) → slice_get bundles place.bundle ≡ Some b
+    → FitsNext bundles place (next_in (Some b) (length bundles) place)
 next_in_bundle bundles place b is = of (nat_lt place.slot (last_slot b.slots)) (nat_lt (place.bundle + 1) (length bundles)) refl refl
   where
     of : (inner more : Bool) → nat_lt place.slot (last_slot b.slots) ≡ inner → nat_lt (place.bundle + 1) (length bundles) ≡ more →
-        FitsNext bundles place (if inner then Some (record { bundle = place.bundle; slot = place.slot + 1 }) else if more then Some (first_of (place.bundle + 1)) else None)
+        FitsNext bundles place (if inner then Some (record { bundle = place.bundle; slot = place.slot + 1 }) else if more then Some
+        (first_of (place.bundle + 1)) else None)
     of true more e f = next_slot bundles place b is (grind (arith, nat_tests))
     of false true e f = next_bundle bundles place b is (grind (arith, nat_tests)) (grind (arith, nat_tests))
     of false false e f = no_next bundles place b is (grind (arith, nat_tests)) (grind (arith, nat_tests))
@@ -133,5 +142,7 @@ both_fit bundles place None (Some q) h k = absurd (h q k.is k.after)
 both_fit bundles place (Some p) None h k = absurd (k p h.is h.after)
 
 -- What is the next place, or tells that there is none, is what the function gives.
-pub next_same : (bundles : List Bundle) (place : Place) (r : Option Place) → MatchOption r ((q : Place) → IsPlaceOf bundles q → IsBefore place q → ⊥) (λ next. IsNext bundles place next) → r ≡ next_of bundles place
+pub next_same : (bundles : List Bundle) (place : Place) (r : Option Place)
+    → MatchOption r ((q : Place) → IsPlaceOf bundles q → IsBefore place q → ⊥) (λ next. IsNext bundles place next)
+    → r ≡ next_of bundles place
 next_same bundles place r h = both_fit bundles place r (next_of bundles place) h (next_fits bundles place)

@@ -11,7 +11,15 @@ use Rattle.ia_meaning.proofs.Arrivals.{zero_keeps}
 use Rattle.ia_meaning.proofs.GroupEnds.{zero_is_place}
 
 zero_frame_is : IsFrame zero_frame
-zero_frame_is = record { size = omega arith; locals = omega arith; rotating = omega arith; general = inr refl; floating = omega arith; predicates = omega arith }
+zero_frame_is =
+    record {
+      size = omega arith;
+      locals = omega arith;
+      rotating = omega arith;
+      general = inr refl;
+      floating = omega arith;
+      predicates = omega arith;
+    }
 
 pub zero_registers_are : AreRegisters zero_registers
 zero_registers_are = record {
@@ -57,4 +65,14 @@ zero_is_start p program =
 -- The test of frames says whether it is one.
 pub frame_decides : (f : FrameShape) → IsTrue (is_frame f) ↔ IsFrame f
 unfolding is_frame
-frame_decides f = (λ h. record { size = grind (arith, nat_tests); locals = grind (arith, nat_tests); rotating = grind (arith, nat_tests); general = grind (arith, nat_tests); floating = grind (arith, nat_tests); predicates = grind (arith, nat_tests) }, λ is. grind (arith, nat_tests))
+frame_decides f = (
+  λ h. record {
+    size = grind (arith, nat_tests);
+    locals = grind (arith, nat_tests);
+    rotating = grind (arith, nat_tests);
+    general = grind (arith, nat_tests);
+    floating = grind (arith, nat_tests);
+    predicates = grind (arith, nat_tests);
+  },
+  λ is. grind (arith, nat_tests),
+)

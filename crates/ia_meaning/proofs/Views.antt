@@ -21,7 +21,8 @@ same_choice true d = refl
 same_choice false d = refl
 
 -- An item of the list is that of one of the two.
-pub seen_at : {X : Type 0} (sees : ℕ → Bool) (n k : ℕ) (base now : List X) (d : X) → length now ≡ length base → get_or (seen_in sees n base now) k d ≡ (if sees (n + k) then get_or now k d else get_or base k d)
+pub seen_at : {X : Type 0} (sees : ℕ → Bool) (n k : ℕ) (base now : List X) (d : X) → length now ≡ length base
+    → get_or (seen_in sees n base now) k d ≡ (if sees (n + k) then get_or now k d else get_or base k d)
 seen_at sees n k [] [] d e = same_choice (sees (n + k)) d
 seen_at sees n k [] (y ∷ now) d e = absurd (omega arith)
 seen_at sees n k (x ∷ base) [] d e = absurd (omega arith)
@@ -54,14 +55,20 @@ sees_no_static (action.Return b2) n e = absurd (true≢false e)
 sees_no_static f n e = refl
 
 sees_no_predicate : (insn : Insn) (f : FrameShape) (n : ℕ) → is_branch (insn_action insn) ≡ false → sees_predicate insn f n ≡ false
-sees_no_predicate insn f n e = ap (λ b. (b && (n == predicate_index f insn.qp)) || sees_static (insn_action insn) n) e ∙ sees_no_static (insn_action insn) n e
+sees_no_predicate insn f n e =
+    ap (λ b. (b && (n == predicate_index f insn.qp)) || sees_static (insn_action insn) n) e ∙ sees_no_static (insn_action insn) n e
 
 -- An instruction other than a branch sees the registers of the start.
 pub view_plain : (insn : Insn) (now base : Registers) → is_branch (insn_action insn) ≡ false → view insn now base ≡ base
 view_plain insn now base e =
-    let predicates = seen_none (sees_predicate insn base.frame) (λ n. sees_no_predicate insn base.frame n e) 0 base.predicates now.predicates in
+    let predicates =
+    seen_none (sees_predicate insn base.frame) (λ n. sees_no_predicate insn base.frame n e) 0 base.predicates now.predicates in
     let branches = seen_none (sees_branch (insn_action insn)) (λ n. sees_no_branch (insn_action insn) n e) 0 base.branches now.branches in
     let pfs = ap (λ b. if b then now.pfs else base.pfs) (sees_no_pfs (insn_action insn) e) in
-    ap (λ l. record base { predicates = l; branches = seen_in (sees_branch (insn_action insn)) 0 base.branches now.branches; pfs = if sees_pfs (insn_action insn) then now.pfs else base.pfs }) predicates
+    ap (λ l. record base {
+      predicates = l;
+      branches = seen_in (sees_branch (insn_action insn)) 0 base.branches now.branches;
+      pfs = if sees_pfs (insn_action insn) then now.pfs else base.pfs;
+    }) predicates
     ∙ ap (λ l. record base { branches = l; pfs = if sees_pfs (insn_action insn) then now.pfs else base.pfs }) branches
     ∙ ap (λ x. record base { pfs = x }) pfs

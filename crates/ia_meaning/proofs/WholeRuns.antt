@@ -65,7 +65,9 @@ abbrev pub ComesToEnd : ℕ → Program → Type 0
 ComesToEnd most p =
     (m : Progress) → m.end ≡ None → (k : ℕ) → m.slots ≡ suc k → HasGroup m (to_group_end most p m) (group_within most p m.state)
 
-step_group : (p : Program) (s : State) (m : Progress) (step : Step) (after : Progress) (rest : Group) (h : Option How) → (h ≡ None → HasGroup (stepped m step) after rest) → HasGroup m (rest_by (slots_after m.slots h) (stepped m step) after) (group_by p s step h rest)
+step_group : (p : Program) (s : State) (m : Progress) (step : Step) (after : Progress) (rest : Group) (h : Option How)
+    → (h ≡ None → HasGroup (stepped m step) after rest) → HasGroup m (rest_by (slots_after m.slots h) (stepped m step) after)
+    (group_by p s step h rest)
 step_group p s m step after rest (Some how) has = record { state = refl; end = refl; groups = refl; range = refl }
 step_group p s m step after rest None has =
     let h = has refl in
@@ -75,15 +77,20 @@ step_group p s m step after rest None has =
 pub after_step : (k : ℕ) (h : Option How) → h ≡ None → slots_after k h ≡ suc k
 after_step k h e = rw e (omega arith)
 
-stepped_comes_to_end : (most : ℕ) (p : Program) (m : Progress) (s : State) → ComesToEnd most p → HasGroup m (rest_by (stepped m (seq_step p s)).slots (stepped m (seq_step p s)) (to_group_end most p (stepped m (seq_step p s)))) (group_within (suc most) p s)
+stepped_comes_to_end : (most : ℕ) (p : Program) (m : Progress) (s : State) → ComesToEnd most p
+    → HasGroup m (rest_by (stepped m (seq_step p s)).slots (stepped m (seq_step p s)) (to_group_end most p (stepped m (seq_step p s))))
+    (group_within (suc most) p s)
 stepped_comes_to_end most p m s comes =
-    step_group p s m (seq_step p s) (to_group_end most p (stepped m (seq_step p s))) (group_within most p (seq_step p s).state) (seq_step p s).how
+    step_group p s m (seq_step p s) (to_group_end most p (stepped m (seq_step p s))) (group_within most p (seq_step p s).state)
+    (seq_step p s).how
     (λ e. comes (stepped m (seq_step p s)) (step_goes_on p s e) m.slots (after_step m.slots (seq_step p s).how e))
 
 -- One slot more at the front.
-next_comes_to_end : (most : ℕ) (p : Program) (m : Progress) → m.end ≡ None → ComesToEnd most p → HasGroup (opened m) (to_group_end (suc most) p m) (group_within (suc most) p m.state)
+next_comes_to_end : (most : ℕ) (p : Program) (m : Progress) → m.end ≡ None → ComesToEnd most p
+    → HasGroup (opened m) (to_group_end (suc most) p m) (group_within (suc most) p m.state)
 next_comes_to_end most p m none comes =
-    subst (λ (a : Progress). HasGroup (opened m) (rest_by a.slots a (to_group_end most p a)) (group_within (suc most) p m.state)) (sym (advanced_is p m none))
+    subst (λ (a : Progress). HasGroup (opened m) (rest_by a.slots a (to_group_end most p a)) (group_within (suc most) p m.state))
+    (sym (advanced_is p m none))
     (stepped_comes_to_end most p (opened m) m.state comes)
 
 comes_to_end : (most : ℕ) (p : Program) → ComesToEnd most p
@@ -108,7 +115,9 @@ ends_at : (m : Progress) (e : End) → m.end ≡ Some e → end_of m ≡ e
 ends_at m e is = rw is refl
 
 -- The first group of a run, and the rest.
-run_step : (m next after : Progress) (group : Group) (event : GroupEvent) (rest : Run) → HasGroup (record m { groups = m.groups + 1; first = m.state.place }) next group → ((e : End) → next.end ≡ Some e → after ≡ next) → (next.end ≡ None → HasRest next after rest) → (e : Option End) → group.end ≡ e → HasRest m after (run_by group event e rest)
+run_step : (m next after : Progress) (group : Group) (event : GroupEvent) (rest : Run)
+    → HasGroup (record m { groups = m.groups + 1; first = m.state.place }) next group → ((e : End) → next.end ≡ Some e → after ≡ next)
+    → (next.end ≡ None → HasRest next after rest) → (e : Option End) → group.end ≡ e → HasRest m after (run_by group event e rest)
 run_step m next after group event rest has ended goes (Some e) is =
     let at : next.end ≡ Some e = has.end ∙ is in
     subst (λ (x : Progress). HasRest m x (run_by group event (Some e) rest)) (sym (ended e at))
@@ -123,17 +132,21 @@ run_step m next after group event rest has ended goes None is =
     }
 
 -- Going n groups further, from between two groups, comes to the run of n groups.
-pub rest_is : (n number : ℕ) (p : Program) (m : Progress) → IsProgram p → IsUnderWay p m → m.end ≡ None → m.slots ≡ 0 → HasRest m (groups_further n p m) (run_from (λ k s. seq_group p s) number n m.state)
+pub rest_is : (n number : ℕ) (p : Program) (m : Progress) → IsProgram p → IsUnderWay p m → m.end ≡ None → m.slots ≡ 0
+    → HasRest m (groups_further n p m) (run_from (λ k s. seq_group p s) number n m.state)
 rest_is zero number p m program u none slots = record { state = refl; end = rw none refl; groups = omega arith; range = refl }
 rest_is (suc n) number p m program u none slots =
     let has = subst (λ (o : Progress). HasGroup o (group_further p m) (seq_group p m.state)) (opened_between m slots) (group_is p m none) in
-    run_step m (group_further p m) (groups_further n p (group_further p m)) (seq_group p m.state) (event_of number m.state.place (seq_group p m.state)) (run_from (λ k s. seq_group p s) (suc number) n (seq_group p m.state).state)
+    run_step m (group_further p m) (groups_further n p (group_further p m)) (seq_group p m.state)
+    (event_of number m.state.place (seq_group p m.state)) (run_from (λ k s. seq_group p s) (suc number) n (seq_group p m.state).state)
     has (groups_ended n p (group_further p m))
-    (λ goes. subst (λ (s : State). HasRest (group_further p m) (groups_further n p (group_further p m)) (run_from (λ k t. seq_group p t) (suc number) n s)) has.state
+    (λ goes. subst (λ (s : State). HasRest (group_further p m) (groups_further n p (group_further p m))
+    (run_from (λ k t. seq_group p t) (suc number) n s)) has.state
     (rest_is n (suc number) p (group_further p m) program (group_under_way p m program u) goes (group_comes_to_end p m program u none)))
     (seq_group p m.state).end refl
 
-pub progress_is_run : (n : ℕ) (p : Program) (s : State) → IsProgram p → IsPlaceOf p.bundles s.place → HasRun (groups_further n p (begun s)) (seq_run p n s)
+pub progress_is_run : (n : ℕ) (p : Program) (s : State) → IsProgram p → IsPlaceOf p.bundles s.place
+    → HasRun (groups_further n p (begun s)) (seq_run p n s)
 progress_is_run n p s program is =
     let h = rest_is n 1 p (begun s) program (begun_under_way p s is) refl refl in
     record { state = h.state; end = h.end; groups = omega (arith, h.groups); range = h.range }
@@ -141,6 +154,7 @@ progress_is_run n p s program is =
 same_text : (m : Progress) (run : Run) → HasRun m run → progress_text m ≡ run_text run
 same_text m run h = let e = h.state in let f = h.end in let g = h.groups in let k = h.range in cc
 
-pub progress_text_is_run_text : (n : ℕ) (p : Program) (s : State) → IsProgram p → IsPlaceOf p.bundles s.place → progress_text (groups_further n p (begun s)) ≡ run_text (seq_run p n s)
+pub progress_text_is_run_text : (n : ℕ) (p : Program) (s : State) → IsProgram p → IsPlaceOf p.bundles s.place
+    → progress_text (groups_further n p (begun s)) ≡ run_text (seq_run p n s)
 progress_text_is_run_text n p s program is =
     same_text (groups_further n p (begun s)) (seq_run p n s) (progress_is_run n p s program is)

@@ -12,11 +12,13 @@ apply_append [] vs r = refl
 apply_append (w ∷ ws) vs r = apply_append ws vs (put w r)
 
 -- A write that is there by a test.
-pub may_write : (P : Write → Type 0) (t : Bool) (w : Write) (ws : List Write) → (t ≡ true → P w) → Each P ws → Each P (if t then w ∷ ws else ws)
+pub may_write : (P : Write → Type 0) (t : Bool) (w : Write) (ws : List Write) → (t ≡ true → P w) → Each P ws
+    → Each P (if t then w ∷ ws else ws)
 may_write P true w ws h rest = (h refl, rest)
 may_write P false w ws h rest = rest
 
 -- One that is there with its value.
-pub each_written : (P : Write → Type 0) {X : Type 0} (g : X → Write) (o : Option X) (ws : List Write) → ((x : X) → o ≡ Some x → P (g x)) → Each P ws → Each P (written g o ws)
+pub each_written : (P : Write → Type 0) {X : Type 0} (g : X → Write) (o : Option X) (ws : List Write) → ((x : X) → o ≡ Some x → P (g x))
+    → Each P ws → Each P (written g o ws)
 each_written P g None ws h rest = rest
 each_written P g (Some x) ws h rest = (h x refl, rest)

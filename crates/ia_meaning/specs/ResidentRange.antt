@@ -12,7 +12,8 @@ low_after low base high = max (min low base) (high - 96)
 
 -- A rise of the first resident cell spills, and a fall fills; both counts are modulo 2^64.
 abbrev pub range_by : Rse → ℕ → ℕ → Rse
-range_by r low high = record { low = low; high = high; spilled = (r.spilled + (low - r.low)) % 2 ^ 64; filled = (r.filled + (r.low - low)) % 2 ^ 64 }
+range_by r low high =
+    record { low = low; high = high; spilled = (r.spilled + (low - r.low)) % 2 ^ 64; filled = (r.filled + (r.low - low)) % 2 ^ 64 }
 
 abbrev pub range_after : Rse → ℕ × ℕ → Rse
 range_after r change = range_by r (low_after r.low change.0 change.1) change.1

@@ -51,7 +51,18 @@ pub record State : Type 0 where
 -- Slot 0 of bundle 0 is next, every register is 0 without NaT, p0 is 1 and all other predicates are 0, the
 -- frame is empty, and so is the ALAT; the data are those of the program.
 abbrev pub zero_registers : Registers
-zero_registers = record { statics = replicate 32 zero_cell; cells = []; frame = zero_frame; predicates = true ∷ replicate 63 false; branches = replicate 8 0; unat = 0; pfs = 0; lc = 0; ec = 0 }
+zero_registers =
+    record {
+      statics = replicate 32 zero_cell;
+      cells = [];
+      frame = zero_frame;
+      predicates = true ∷ replicate 63 false;
+      branches = replicate 8 0;
+      unat = 0;
+      pfs = 0;
+      lc = 0;
+      ec = 0;
+    }
 
 abbrev pub zero_state : Program → State
 zero_state p = record {

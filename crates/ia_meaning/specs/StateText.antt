@@ -69,7 +69,8 @@ br_lines r = flat_map (br_line r) (count_up 0 8)
 
 abbrev pub application_lines : Registers → List ℕ
 application_lines r =
-    word_line (codes "ar.unat") r.unat ++ word_line (codes "ar.pfs") r.pfs ++ word_line (codes "ar.lc") r.lc ++ word_line (codes "ar.ec") r.ec
+    word_line (codes "ar.unat") r.unat ++ word_line (codes "ar.pfs") r.pfs ++ word_line (codes "ar.lc") r.lc ++ word_line (codes "ar.ec")
+    r.ec
 
 -- The n-th word of the data.
 abbrev pub data_line : List ℕ → ℕ → List ℕ

@@ -99,7 +99,8 @@ abbrev pub and_then : Step → Group → Group
 and_then step rest = record rest { slots = suc rest.slots; frames = step.frames ++ rest.frames }
 
 abbrev pub group_by : Program → State → Step → Option How → Group → Group
-group_by p s step (Some how) rest = record { state = step.state; last = s.place; slots = 1; how = Some how; end = step.end; frames = step.frames }
+group_by p s step (Some how) rest =
+    record { state = step.state; last = s.place; slots = 1; how = Some how; end = step.end; frames = step.frames }
 group_by p s step None rest = and_then step rest
 
 -- A group of at most `most` slots. One that isn't over by then has no ending.

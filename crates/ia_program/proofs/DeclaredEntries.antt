@@ -9,7 +9,8 @@ use Rattle.std.proofs.lemmas.List.{get_or_default}
 use Rattle.std.proofs.lemmas.List.Sorted.{IsNonDecreasingBy-from_all_adjacent, searched}
 use Rattle.ia_program.specs.Programs.{AreEntries, IsEntryAt}
 
-rise : (count : ℕ) (entries : List ℕ) → AreEntries count entries → (i j : ℕ) → i ≤ j → j < length entries → get_or entries i 0 ≤ get_or entries j 0
+rise : (count : ℕ) (entries : List ℕ) → AreEntries count entries → (i j : ℕ) → i ≤ j → j < length entries
+    → get_or entries i 0 ≤ get_or entries j 0
 rise count entries are i j le inside = IsNonDecreasingBy-from_all_adjacent (λ n. n) entries
     (λ k d within.
     let at : IsEntryAt count entries (suc k) = subst (IsEntryAt count entries) (add-one k) (are (k + 1) within) in
@@ -17,7 +18,8 @@ rise count entries are i j le inside = IsNonDecreasingBy-from_all_adjacent (λ n
     i j 0 le inside
 
 -- What such a search returns says whether the bundle is one of them.
-pub found : (count : ℕ) (entries : List ℕ) (bundle : ℕ) (r : Result ℕ ℕ) → AreEntries count entries → IsBinarySearchResult (λ y. nat_cmp y bundle) entries r → IsTrue (is_ok r) ↔ Contains entries bundle
+pub found : (count : ℕ) (entries : List ℕ) (bundle : ℕ) (r : Result ℕ ℕ) → AreEntries count entries
+    → IsBinarySearchResult (λ y. nat_cmp y bundle) entries r → IsTrue (is_ok r) ↔ Contains entries bundle
 found count entries bundle (Ok i) are search_result =
     let at = searched entries bundle (Ok i) search_result (rise count entries are) in
     (λ yes. (i, at.0, get_or_default entries i bundle 0 at.0 ∙ at.1), λ has. search rules)

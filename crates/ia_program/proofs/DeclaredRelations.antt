@@ -20,7 +20,8 @@ record PassesFrom {X : Type 0} (p : X → Bool) (xs : List X) (s e : ℕ) (d : X
   after : (k : ℕ) → e ≤ k → k < length xs → p (get_or xs k d) ≡ false
 
 -- A filter by such a test gives what stands there.
-segment : {X : Type 0} (p : X → Bool) (d : X) (xs : List X) (s e : ℕ) → s ≤ e → PassesFrom p xs s e d → take (e - s) (drop s xs) ≡ filter p xs
+segment : {X : Type 0} (p : X → Bool) (d : X) (xs : List X) (s e : ℕ) → s ≤ e → PassesFrom p xs s e d
+    → take (e - s) (drop s xs) ≡ filter p xs
 segment {X = X} p d [] s e le h = rw (drop_all {X = X} s [] (omega arith)) (take-nil (e - s))
 segment p d (x ∷ xs) zero zero le h =
     rw (h.after zero (omega arith) (omega arith)) (segment p d xs zero zero le (record {
@@ -30,7 +31,8 @@ segment p d (x ∷ xs) zero zero le h =
     }))
 segment p d (x ∷ xs) zero (suc e) le h =
     let count : suc e - 0 ≡ suc (e - 0) = omega arith in
-    rw (count, h.within zero (omega arith) (omega arith) (omega arith)) (ap (λ rest. x ∷ rest) (segment p d xs zero e (omega arith) (record {
+    rw (count, h.within zero (omega arith) (omega arith) (omega arith))
+    (ap (λ rest. x ∷ rest) (segment p d xs zero e (omega arith) (record {
       before = λ k below inside. absurd (omega arith);
       within = λ k from to inside. h.within (suc k) (omega arith) (omega arith) (omega arith);
       after = λ k from inside. h.after (suc k) (omega arith) (omega arith);
@@ -44,18 +46,21 @@ segment p d (x ∷ xs) (suc s) (suc e) le h =
       after = λ k from inside. h.after (suc k) (omega arith) (omega arith);
     }))
 
-pub starts_first : (relations : List Relation) (bundle start end : ℕ) → IsCountBelow relations bundle start → IsCountBelow relations (bundle + 1) end → start ≤ end
+pub starts_first : (relations : List Relation) (bundle start end : ℕ) → IsCountBelow relations bundle start
+    → IsCountBelow relations (bundle + 1) end → start ≤ end
 starts_first relations bundle start end a b = elim (cases_lt end start) [
   | inl more ↦ let low = a.below end more in let high = b.others end (omega arith) (omega (arith, a.bound)) in absurd (omega arith)
   | inr most ↦ most
 ]
 
-pub found_between : (relations : List Relation) (bundle start end : ℕ) → IsCountBelow relations bundle start → IsCountBelow relations (bundle + 1) end → take (end - start) (drop start relations) ≡ relations_at relations bundle
-found_between relations bundle start end a b = segment (λ r. r.bundle == bundle) no_relation relations start end (starts_first relations bundle start end a b) (record {
-  before = λ k below inside. let low = a.below k below in grind arith;
-  within = λ k from to inside. let low = a.others k from inside in let high = b.below k to in grind arith;
-  after = λ k from inside. let high = b.others k from inside in grind arith;
-})
+pub found_between : (relations : List Relation) (bundle start end : ℕ) → IsCountBelow relations bundle start
+    → IsCountBelow relations (bundle + 1) end → take (end - start) (drop start relations) ≡ relations_at relations bundle
+found_between relations bundle start end a b =
+    segment (λ r. r.bundle == bundle) no_relation relations start end (starts_first relations bundle start end a b) (record {
+      before = λ k below inside. let low = a.below k below in grind arith;
+      within = λ k from to inside. let low = a.others k from inside in let high = b.below k to in grind arith;
+      after = λ k from inside. let high = b.others k from inside in grind arith;
+    })
 
 -- The bundles of these relations don't fall.
 abbrev pub IsInOrder : List Relation → Type 0
@@ -65,9 +70,11 @@ pub rises_or_stays : (r s : Relation) → IsRelationBefore r s → r.bundle ≤ 
 rises_or_stays r s (inl below) = omega arith
 rises_or_stays r s (inr (same, p)) = omega arith
 
-pub in_order : (bundles : List Bundle) (entries : List ℕ) (relations : List Relation) → AreRelations bundles entries relations → IsInOrder relations
+pub in_order : (bundles : List Bundle) (entries : List ℕ) (relations : List Relation) → AreRelations bundles entries relations
+    → IsInOrder relations
 in_order bundles entries relations are = IsNonDecreasingBy-from_all_adjacent (λ r. r.bundle) relations
     (λ k d inside.
-    let at : IsRelationAt bundles entries relations (suc k) = subst (IsRelationAt bundles entries relations) (add-one k) (are (k + 1) inside) in
+    let at : IsRelationAt bundles entries relations (suc k) =
+    subst (IsRelationAt bundles entries relations) (add-one k) (are (k + 1) inside) in
     rw (get_or_default relations k d no_relation (omega arith), get_or_default relations (k + 1) d no_relation inside, add-one k)
     (rises_or_stays (relation_at relations k) (relation_at relations (suc k)) at.rises))

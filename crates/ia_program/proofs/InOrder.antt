@@ -36,7 +36,8 @@ lies_in bundles place h = of (slice_get bundles place.bundle) refl h
     of None e h = absurd cc
     of (Some b) e h = record { bundle = b; is = e; within = slot_within b.slots place.slot h }
 
-pub is_place : (bundles : List Bundle) (place : Place) (b : Bundle) → slice_get bundles place.bundle ≡ Some b → place.slot ≤ last_slot b.slots → IsPlaceOf bundles place
+pub is_place : (bundles : List Bundle) (place : Place) (b : Bundle) → slice_get bundles place.bundle ≡ Some b
+    → place.slot ≤ last_slot b.slots → IsPlaceOf bundles place
 unfolding insn_at
 is_place bundles place b e h = subst (λ (o : Option Bundle). IsSome (bundle_insn o place.slot)) (sym e) (within_slot b.slots place.slot h)
 
@@ -52,7 +53,8 @@ get_some (x ∷ xs) zero h = (x, refl)
 get_some (x ∷ xs) (suc n) h = get_some xs n (omega arith)
 
 -- A place of a bundle comes no later than its last slot.
-not_after_last : (bundles : List Bundle) (n : ℕ) (b : Bundle) (q : Place) → slice_get bundles n ≡ Some b → q.bundle ≡ n → IsPlaceOf bundles q → q.slot ≤ last_slot b.slots
+not_after_last : (bundles : List Bundle) (n : ℕ) (b : Bundle) (q : Place) → slice_get bundles n ≡ Some b → q.bundle ≡ n
+    → IsPlaceOf bundles q → q.slot ≤ last_slot b.slots
 not_after_last bundles n b q is at h =
     let l = lies_in bundles q h in
     let e : Some l.bundle ≡ Some b = sym l.is ∙ ap (slice_get bundles) at ∙ is in
@@ -60,20 +62,26 @@ not_after_last bundles n b q is at h =
     subst (λ (x : Bundle). q.slot ≤ last_slot x.slots) f l.within
 
 -- The next place, where the bundle has one.
-pub next_slot : (bundles : List Bundle) (place : Place) (b : Bundle) → slice_get bundles place.bundle ≡ Some b → place.slot < last_slot b.slots → IsNext bundles place (record { bundle = place.bundle; slot = place.slot + 1 })
+pub next_slot : (bundles : List Bundle) (place : Place) (b : Bundle) → slice_get bundles place.bundle ≡ Some b
+    → place.slot < last_slot b.slots → IsNext bundles place (record { bundle = place.bundle; slot = place.slot + 1 })
 next_slot bundles place b is h = record {
   is = is_place bundles (record { bundle = place.bundle; slot = place.slot + 1 }) b is (omega arith);
   after = inr (refl, omega arith);
   first = between;
 }
   where
-    between : (q : Place) → IsPlaceOf bundles q → IsBefore place q → IsBefore q (record { bundle = place.bundle; slot = place.slot + 1 }) → ⊥
+    between : (q : Place) → IsPlaceOf bundles q → IsBefore place q → IsBefore q (record { bundle = place.bundle; slot = place.slot + 1 })
+        → ⊥
     between q p after before = grind arith
 
 -- The first place of the next bundle, after the last one of a bundle.
-pub next_bundle : (bundles : List Bundle) (place : Place) (b : Bundle) → slice_get bundles place.bundle ≡ Some b → last_slot b.slots ≤ place.slot → place.bundle + 1 < length bundles → IsNext bundles place (record { bundle = place.bundle + 1; slot = 0 })
+pub next_bundle : (bundles : List Bundle) (place : Place) (b : Bundle) → slice_get bundles place.bundle ≡ Some b
+    → last_slot b.slots ≤ place.slot → place.bundle + 1 < length bundles
+    → IsNext bundles place (record { bundle = place.bundle + 1; slot = 0 })
 next_bundle bundles place b is h inside = record {
-  is = let s = get_some bundles (place.bundle + 1) inside in is_place bundles (record { bundle = place.bundle + 1; slot = 0 }) s.0 s.1 (omega arith);
+  is =
+      let s = get_some bundles (place.bundle + 1) inside in is_place bundles (record { bundle = place.bundle + 1; slot = 0 }) s.0 s.1
+      (omega arith);
   after = inl (omega arith);
   first = between;
 }
@@ -84,7 +92,8 @@ next_bundle bundles place b is h inside = record {
     between q p (inr after) before = let l = not_after_last bundles place.bundle b q is (sym after.0) p in omega arith
 
 -- No place comes after the last one.
-pub no_next : (bundles : List Bundle) (place : Place) (b : Bundle) → slice_get bundles place.bundle ≡ Some b → last_slot b.slots ≤ place.slot → length bundles ≤ place.bundle + 1 → (q : Place) → IsPlaceOf bundles q → IsBefore place q → ⊥
+pub no_next : (bundles : List Bundle) (place : Place) (b : Bundle) → slice_get bundles place.bundle ≡ Some b
+    → last_slot b.slots ≤ place.slot → length bundles ≤ place.bundle + 1 → (q : Place) → IsPlaceOf bundles q → IsBefore place q → ⊥
 no_next bundles place b is h end q p (inl after) = let s = bundle_small bundles q p in omega arith
 no_next bundles place b is h end q p (inr after) = let l = not_after_last bundles place.bundle b q is (sym after.0) p in omega arith
 
@@ -93,6 +102,9 @@ get_beyond [] n e = omega arith
 get_beyond (x ∷ xs) zero e = absurd cc
 get_beyond (x ∷ xs) (suc n) e = let h = get_beyond xs n e in omega arith
 
-pub none_beyond : (bundles : List Bundle) (place : Place) → slice_get bundles place.bundle ≡ None → (q : Place) → IsPlaceOf bundles q → IsBefore place q → ⊥
-none_beyond bundles place none q p (inl after) = let s = bundle_small bundles q p in let l = get_beyond bundles place.bundle none in omega arith
-none_beyond bundles place none q p (inr after) = let s = bundle_small bundles q p in let l = get_beyond bundles place.bundle none in omega arith
+pub none_beyond : (bundles : List Bundle) (place : Place) → slice_get bundles place.bundle ≡ None → (q : Place) → IsPlaceOf bundles q
+    → IsBefore place q → ⊥
+none_beyond bundles place none q p (inl after) =
+    let s = bundle_small bundles q p in let l = get_beyond bundles place.bundle none in omega arith
+none_beyond bundles place none q p (inr after) =
+    let s = bundle_small bundles q p in let l = get_beyond bundles place.bundle none in omega arith

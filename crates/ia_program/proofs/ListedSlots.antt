@@ -18,7 +18,8 @@ abbrev EachSlot : (Insn → Type 0) → Slots → Type 0
 EachSlot P (Three a b c) = P a × P b × P c
 EachSlot P (Long first long) = P first × P long
 
-chosen : (P : Insn → Type 0) (here : Bool) (a : Insn) (other : Option Insn) (i : Insn) → P a → (other ≡ Some i → P i) → (if here then Some a else other) ≡ Some i → P i
+chosen : (P : Insn → Type 0) (here : Bool) (a : Insn) (other : Option Insn) (i : Insn) → P a → (other ≡ Some i → P i)
+    → (if here then Some a else other) ≡ Some i → P i
 chosen P true a other i p q e = let same : a ≡ i = cc in subst P same p
 chosen P false a other i p q e = q e
 

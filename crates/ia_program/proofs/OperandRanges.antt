@@ -48,7 +48,8 @@ ranges_f : (qp : ℕ) (x : Op) → AsRow rows_f (row_index_f (opcode_of x)) (rec
 unfolding rows_f listed
 ranges_f qp x h = grind arith
 
-ranges_x : (qp : ℕ) (x : Op) → AsRow rows_x (row_index_x (opcode_of (slot_op x))) (record { qp = qp; op = slot_op x }) → IsWithin x → HasRanges x × MayQualify qp x
+ranges_x : (qp : ℕ) (x : Op) → AsRow rows_x (row_index_x (opcode_of (slot_op x))) (record { qp = qp; op = slot_op x }) → IsWithin x
+    → HasRanges x × MayQualify qp x
 unfolding rows_x listed
 ranges_x qp x h within = grind arith
 

@@ -15,7 +15,8 @@ use Rattle.ia_program.specs.Programs.{Program, AreInRange, AreEntries, IsEntryAt
 use Rattle.ia_program.proofs.Reaching.{order}
 
 -- One place is the first bad one.
-pub one_first_bad : (bundles : List Bundle) (Good : Place → Type 0) (p q : Place) → IsFirstBad bundles Good p → IsFirstBad bundles Good q → p ≡ q
+pub one_first_bad : (bundles : List Bundle) (Good : Place → Type 0) (p q : Place) → IsFirstBad bundles Good p → IsFirstBad bundles Good q
+    → p ≡ q
 one_first_bad bundles Good p q a b = elim (order p q) [
   | inl less ↦ absurd (a.bad (b.first p a.is less))
   | inr (inl more) ↦ absurd (b.bad (a.first q b.is more))
@@ -23,16 +24,19 @@ one_first_bad bundles Good p q a b = elim (order p q) [
 ]
 
 -- The search for a bad place, and for a misplaced entry, finds at most one and none where all are good.
-pub first_bad_sound : {Fault : Type 0} (fault : Place → Fault) (bundles : List Bundle) (Good : Place → Type 0) → IsSound (first Place fault (IsFirstBad bundles Good) (EachPlace bundles Good))
+pub first_bad_sound : {Fault : Type 0} (fault : Place → Fault) (bundles : List Bundle) (Good : Place → Type 0)
+    → IsSound (first Place fault (IsFirstBad bundles Good) (EachPlace bundles Good))
 first_bad_sound fault bundles Good = record { one = one_first_bad bundles Good; none = λ p bad each. bad.bad (each p bad.is) }
 
-pub misplaced_sound : {Fault : Type 0} (fault : ℕ → Fault) (count : ℕ) (entries : List ℕ) → IsSound (first ℕ fault (IsFirstMisplaced count entries) (AreEntries count entries))
+pub misplaced_sound : {Fault : Type 0} (fault : ℕ → Fault) (count : ℕ) (entries : List ℕ)
+    → IsSound (first ℕ fault (IsFirstMisplaced count entries) (AreEntries count entries))
 misplaced_sound fault count entries = record {
   one = λ m n a b. one_first (IsEntryAt count entries) m n a.first a.misplaced b.first b.misplaced;
   none = λ n a are. a.misplaced (are n a.inside);
 }
 
-pub misdeclared_sound : {Fault : Type 0} (fault : ℕ → Fault) (bundles : List Bundle) (entries : List ℕ) (relations : List Relation) → IsSound (first ℕ fault (IsFirstMisdeclared bundles entries relations) (AreRelations bundles entries relations))
+pub misdeclared_sound : {Fault : Type 0} (fault : ℕ → Fault) (bundles : List Bundle) (entries : List ℕ) (relations : List Relation)
+    → IsSound (first ℕ fault (IsFirstMisdeclared bundles entries relations) (AreRelations bundles entries relations))
 misdeclared_sound fault bundles entries relations = record {
   one = λ m n a b. one_first (IsRelationAt bundles entries relations) m n a.first a.misdeclared b.first b.misdeclared;
   none = λ n a are. a.misdeclared (are n a.inside);
@@ -41,11 +45,18 @@ misdeclared_sound fault bundles entries relations = record {
 program_sound : (p : Program) → AreSound (program_stages p)
 program_sound p = (
   unless_sound (AreInRange (length p.bundles) (length p.entries) (length p.bytes) (length p.relations)) Counts,
-  (misplaced_sound _ (length p.bundles) p.entries, (first_bad_sound _ p.bundles (IsTargetInside p.bundles), (first_bad_sound _ p.bundles (IsWithinRun p.bundles), (misdeclared_sound _ p.bundles p.entries p.relations, tt)))),
+  (
+    misplaced_sound _ (length p.bundles) p.entries,
+    (
+      first_bad_sound _ p.bundles (IsTargetInside p.bundles),
+      (first_bad_sound _ p.bundles (IsWithinRun p.bundles), (misdeclared_sound _ p.bundles p.entries p.relations, tt)),
+    ),
+  ),
 )
 
 pub one_program_fault : (p : Program) (f g : ProgramFault) → HasProgramFault p f → HasProgramFault p g → f ≡ g
 one_program_fault p f g a b = one_fault (program_stages p) (program_sound p) f g a b
 
 pub no_program_fault : (p : Program) (f : ProgramFault) → IsProgram p → HasProgramFault p f → ⊥
-no_program_fault p f is a = no_fault (program_stages p) (program_sound p) (is.counts, (is.entries, (is.targets, (is.runs, (is.relations, tt))))) f a
+no_program_fault p f is a =
+    no_fault (program_stages p) (program_sound p) (is.counts, (is.entries, (is.targets, (is.runs, (is.relations, tt))))) f a

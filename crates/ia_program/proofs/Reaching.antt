@@ -46,7 +46,8 @@ HasReached bundles Good (Some place) = IsReached bundles Good place
 abbrev pub Follows : List Bundle → Place → Option Place → Type 0
 Follows bundles place next = MatchOption next ((q : Place) → IsPlaceOf bundles q → IsBefore place q → ⊥) (λ n. IsNext bundles place n)
 
-pub first_reached : (bundles : List Bundle) (Good : Place → Type 0) → 1 ≤ length bundles → IsReached bundles Good (record { bundle = 0; slot = 0 })
+pub first_reached : (bundles : List Bundle) (Good : Place → Type 0) → 1 ≤ length bundles
+    → IsReached bundles Good (record { bundle = 0; slot = 0 })
 first_reached bundles Good some = record {
   is = let s = get_some bundles 0 (omega arith) in is_place bundles (record { bundle = 0; slot = 0 }) s.0 s.1 (omega arith);
   before = none;
@@ -57,7 +58,8 @@ first_reached bundles Good some = record {
     none q p (inr less) = absurd (omega (arith, less.1))
 
 -- A good place, and the pass goes on to the next.
-pub goes_on : (bundles : List Bundle) (Good : Place → Type 0) (place : Place) (next : Option Place) → IsReached bundles Good place → Good place → Follows bundles place next → HasReached bundles Good next
+pub goes_on : (bundles : List Bundle) (Good : Place → Type 0) (place : Place) (next : Option Place) → IsReached bundles Good place
+    → Good place → Follows bundles place next → HasReached bundles Good next
 goes_on bundles Good place None r good none = all
   where
     all : (q : Place) → IsPlaceOf bundles q → Good q
@@ -79,18 +81,21 @@ goes_on bundles Good place (Some next) r good is = record { is = is.is; before =
 abbrev pub IsSound : List Bundle → Place → Type 0
 IsSound bundles place = IsTargetInside bundles place × IfSome (slice_get bundles place.bundle) IsBundle
 
-pub first_outside : (bundles : List Bundle) (place : Place) → IsReached bundles (IsSound bundles) place → ¬ IsTargetInside bundles place → IsFirstBad bundles (IsTargetInside bundles) place
+pub first_outside : (bundles : List Bundle) (place : Place) → IsReached bundles (IsSound bundles) place → ¬ IsTargetInside bundles place
+    → IsFirstBad bundles (IsTargetInside bundles) place
 first_outside bundles place r bad = record { is = r.is; bad = bad; first = λ q p before. (r.before q p before).0 }
 
 -- Where each place is sound, so is each bundle.
-pub all_sound : (bundles : List Bundle) → EachPlace bundles (IsSound bundles) → EachPlace bundles (IsTargetInside bundles) × AreBundles bundles
+pub all_sound : (bundles : List Bundle) → EachPlace bundles (IsSound bundles)
+    → EachPlace bundles (IsTargetInside bundles) × AreBundles bundles
 all_sound bundles each = (λ q p. (each q p).0, λ n. of n (slice_get bundles n) refl)
   where
     of : (n : ℕ) (o : Option Bundle) → slice_get bundles n ≡ o → IfSome (slice_get bundles n) IsBundle
     of n None e = rw e tt
     of n (Some b) e = (each (record { bundle = n; slot = 0 }) (is_place bundles (record { bundle = n; slot = 0 }) b e (omega arith))).1
 
-pub first_bad : (bundles : List Bundle) (Good : Place → Type 0) (place : Place) → IsReached bundles Good place → ¬ Good place → IsFirstBad bundles Good place
+pub first_bad : (bundles : List Bundle) (Good : Place → Type 0) (place : Place) → IsReached bundles Good place → ¬ Good place
+    → IsFirstBad bundles Good place
 first_bad bundles Good place r bad = record { is = r.is; bad = bad; first = r.before }
 
 -- How many slots are left at most.
@@ -98,7 +103,8 @@ abbrev pub slots_left : ℕ → Option Place → ℕ
 slots_left count None = 0
 slots_left count (Some place) = 3 * (count - place.bundle) + 3 - place.slot
 
-pub fewer_left : (bundles : List Bundle) (place : Place) (next : Option Place) → IsPlaceOf bundles place → Follows bundles place next → slots_left (length bundles) next < slots_left (length bundles) (Some place)
+pub fewer_left : (bundles : List Bundle) (place : Place) (next : Option Place) → IsPlaceOf bundles place → Follows bundles place next
+    → slots_left (length bundles) next < slots_left (length bundles) (Some place)
 fewer_left bundles place None is none = let s = slot_small bundles place is in omega arith
 fewer_left bundles place (Some next) is follows = smaller follows.after
   where
@@ -135,7 +141,8 @@ first_run bundles = record { slots = []; stand = tt; count = refl; most = none }
     none (p ∷ ps) stand = absurd (before_first p stand.1.after)
 
 -- A place comes next after one place alone.
-one_before : (bundles : List Bundle) (p q next : Place) → IsPlaceOf bundles p → IsPlaceOf bundles q → IsNext bundles p next → IsNext bundles q next → p ≡ q
+one_before : (bundles : List Bundle) (p q next : Place) → IsPlaceOf bundles p → IsPlaceOf bundles q → IsNext bundles p next
+    → IsNext bundles q next → p ≡ q
 one_before bundles p q next is other after later = elim (order p q) [
   | inl less ↦ absurd (after.first q other less later.after)
   | inr (inl more) ↦ absurd (later.first p is more after.after)
@@ -143,7 +150,8 @@ one_before bundles p q next is other after later = elim (order p q) [
 ]
 
 -- A run that ends at a place: none of its slots stand before the next.
-pub run_ends : (bundles : List Bundle) (place : Place) (next : Option Place) → IsPlaceOf bundles place → EndsRun bundles place → Follows bundles place next → HasRun bundles next 0
+pub run_ends : (bundles : List Bundle) (place : Place) (next : Option Place) → IsPlaceOf bundles place → EndsRun bundles place
+    → Follows bundles place next → HasRun bundles next 0
 run_ends bundles place None is ends none = tt
 run_ends bundles place (Some next) is ends follows = record { slots = []; stand = tt; count = refl; most = none }
   where
@@ -152,9 +160,11 @@ run_ends bundles place (Some next) is ends follows = record { slots = []; stand 
     none (p ∷ ps) stand = absurd (stand.2 (subst (EndsRun bundles) (one_before bundles place p next is stand.0 follows stand.1) ends))
 
 -- A run that doesn't end there has one slot more.
-pub run_goes_on : (bundles : List Bundle) (place : Place) (next : Option Place) (run : ℕ) → IsPlaceOf bundles place → ¬ EndsRun bundles place → IsRunOf bundles place run → Follows bundles place next → HasRun bundles next (run + 1)
+pub run_goes_on : (bundles : List Bundle) (place : Place) (next : Option Place) (run : ℕ) → IsPlaceOf bundles place
+    → ¬ EndsRun bundles place → IsRunOf bundles place run → Follows bundles place next → HasRun bundles next (run + 1)
 run_goes_on bundles place None run is on r none = tt
-run_goes_on bundles place (Some next) run is on r follows = record { slots = place ∷ r.slots; stand = (is, follows, on, r.stand); count = omega (arith, r.count); most = most }
+run_goes_on bundles place (Some next) run is on r follows =
+    record { slots = place ∷ r.slots; stand = (is, follows, on, r.stand); count = omega (arith, r.count); most = most }
   where
     most : (others : List Place) → StandBefore bundles others next → length others ≤ run + 1
     most [] stand = omega arith

@@ -10,7 +10,9 @@ is_memory Memory = inl refl
 is_memory fault = inr (λ e. cc)
 
 -- The one program is answered, unless memory is wanting.
-pub only_program : (Is : Program → Type 0) (Has : ImageFault → Type 0) → ((p q : Program) → Is p → Is q → p ≡ q) → ((p : Program) (fault : ImageFault) → Is p → Has fault → ⊥) → (result : Result Program ImageFault) → IfOk result Is → IfErr result (λ fault. fault ≢ Memory → Has fault) → (p : Program) → Is p → (result ≡ Ok p) ⊎ (result ≡ Err Memory)
+pub only_program : (Is : Program → Type 0) (Has : ImageFault → Type 0) → ((p q : Program) → Is p → Is q → p ≡ q)
+    → ((p : Program) (fault : ImageFault) → Is p → Has fault → ⊥) → (result : Result Program ImageFault) → IfOk result Is
+    → IfErr result (λ fault. fault ≢ Memory → Has fault) → (p : Program) → Is p → (result ≡ Ok p) ⊎ (result ≡ Err Memory)
 only_program Is Has one none (Ok q) found fault p is = inl (ap Ok (one q p found is))
 only_program Is Has one none (Err why) found fault p is = elim (is_memory why) [
   | inl memory ↦ inr (ap Err memory)
@@ -18,7 +20,9 @@ only_program Is Has one none (Err why) found fault p is = elim (is_memory why) [
 ]
 
 -- The one fault is answered, unless memory is wanting.
-pub only_fault : (Is : Program → Type 0) (Has : ImageFault → Type 0) → ((f g : ImageFault) → Has f → Has g → f ≡ g) → ((p : Program) (fault : ImageFault) → Is p → Has fault → ⊥) → (result : Result Program ImageFault) → IfOk result Is → IfErr result (λ fault. fault ≢ Memory → Has fault) → (fault : ImageFault) → Has fault → (result ≡ Err fault) ⊎ (result ≡ Err Memory)
+pub only_fault : (Is : Program → Type 0) (Has : ImageFault → Type 0) → ((f g : ImageFault) → Has f → Has g → f ≡ g)
+    → ((p : Program) (fault : ImageFault) → Is p → Has fault → ⊥) → (result : Result Program ImageFault) → IfOk result Is
+    → IfErr result (λ fault. fault ≢ Memory → Has fault) → (fault : ImageFault) → Has fault → (result ≡ Err fault) ⊎ (result ≡ Err Memory)
 only_fault Is Has one none (Ok q) found fault why has = absurd (none q why found has)
 only_fault Is Has one none (Err other) found fault why has = elim (is_memory other) [
   | inl memory ↦ inr (ap Err memory)

@@ -29,9 +29,14 @@ use Rattle.image_form.proofs.Wholes.{ArePartsOf, IsPaddedImage, length-bundle_by
 
 -- Sixteen bytes are bytes.
 sixteen : (bytes : List ℕ) (n : ℕ) → 16 * n + 16 ≤ length bytes → AreBytes bytes → AreSixteen (chunk bytes n)
-sixteen bytes n inside are = record { count = simp (length-take, length-drop) (omega arith); small = bytes_take 16 (drop (16 * n) bytes) (bytes_drop (16 * n) bytes are) }
+sixteen bytes n inside are =
+    record {
+      count = simp (length-take, length-drop) (omega arith);
+      small = bytes_take 16 (drop (16 * n) bytes) (bytes_drop (16 * n) bytes are);
+    }
 
-spelling_not_open : codec.FaultWhereNoneSpelled → (bytes : List ℕ) (count : ℕ) → length bytes ≡ 16 * count → AreBytes bytes → IsNotOpen (spelling_stage bytes)
+spelling_not_open : codec.FaultWhereNoneSpelled → (bytes : List ℕ) (count : ℕ) → length bytes ≡ 16 * count → AreBytes bytes
+    → IsNotOpen (spelling_stage bytes)
 spelling_not_open some bytes count size are none go =
     none_first (λ k. IsBundleBytes (chunk bytes k)) count
     (λ n less before unspelled.
@@ -45,7 +50,8 @@ lower_number q i small (inl less) = omega arith
 lower_number q i small (inr less) = omega (arith, less.0, less.1)
 
 -- Where no place is the first bad one, it can't be that not all are good.
-none_first_bad : (bundles : List Bundle) (Good : Place → Type 0) → ((p : Place) → IsFirstBad bundles Good p → ⊥) → (EachPlace bundles Good → ⊥) → ⊥
+none_first_bad : (bundles : List Bundle) (Good : Place → Type 0) → ((p : Place) → IsFirstBad bundles Good p → ⊥)
+    → (EachPlace bundles Good → ⊥) → ⊥
 none_first_bad bundles Good none go =
     none_first IsGood (3 * length bundles)
     (λ i inside before bad. bad (λ is. absurd (none (place_at i) (record {
@@ -61,17 +67,24 @@ none_first_bad bundles Good none go =
     back : (q : Place) → IsPlaceOf bundles q → IsGood (place_number q) → Good q
     back q p good = subst (λ (r : Place). IsPlaceOf bundles r → Good r) (place_at-number q (slot_small bundles q p)) good p
 
-place_not_open : (bytes : List ℕ) (fault : Place → ImageFault) (Good : List Bundle → Place → Type 0) → (bundles : List Bundle) → AreSpelled bundles bytes → IsNotOpen (place_stage bytes fault Good)
+place_not_open : (bytes : List ℕ) (fault : Place → ImageFault) (Good : List Bundle → Place → Type 0) → (bundles : List Bundle)
+    → AreSpelled bundles bytes → IsNotOpen (place_stage bytes fault Good)
 place_not_open bytes fault Good bundles spelled none go =
     none_first_bad bundles (Good bundles) (λ p first. none p (bundles, spelled, first)) (λ each. go (bundles, spelled, each))
 
-bundles_not_open : codec.FaultWhereNoneSpelled → (bytes : List ℕ) (count : ℕ) (later : List (Stage ImageFault)) → length bytes ≡ 16 * count → AreBytes bytes → ((bundles : List Bundle) → AreSpelled bundles bytes → AreNotOpen later) → AreNotOpen (bundle_stages bytes later)
+bundles_not_open : codec.FaultWhereNoneSpelled → (bytes : List ℕ) (count : ℕ) (later : List (Stage ImageFault)) → length bytes ≡ 16 * count
+    → AreBytes bytes → ((bundles : List Bundle) → AreSpelled bundles bytes → AreNotOpen later) → AreNotOpen (bundle_stages bytes later)
 bundles_not_open some bytes count later size are others = (
   spelling_not_open some bytes count size are,
-  λ s. (place_not_open bytes Target IsTargetInside s.0 s.1, λ targets. (place_not_open bytes LongRun IsWithinRun s.0 s.1, λ runs. others s.0 s.1)),
+  λ s. (
+    place_not_open bytes Target IsTargetInside s.0 s.1,
+    λ targets.
+        (place_not_open bytes LongRun IsWithinRun s.0 s.1, λ runs. others s.0 s.1),
+  ),
 )
 
-relation_not_open : (spelled entries : List ℕ) (relations : List Relation) (bytes : List ℕ) (bundles : List Bundle) → AreSpelled bundles spelled → IsNotOpen (relation_stage spelled entries relations bytes)
+relation_not_open : (spelled entries : List ℕ) (relations : List Relation) (bytes : List ℕ) (bundles : List Bundle)
+    → AreSpelled bundles spelled → IsNotOpen (relation_stage spelled entries relations bytes)
 relation_not_open spelled entries relations bytes bundles is none go =
     none_first (IsRelationRight bundles entries relations bytes) (length relations)
     (λ n inside before bad. none n (bundles, is, record { inside = inside; wrong = bad; first = before }))
@@ -79,7 +92,8 @@ relation_not_open spelled entries relations bytes bundles is none go =
 
 entry_not_open : (count : ℕ) (entries : List ℕ) → IsNotOpen (entry_stage count entries)
 entry_not_open count entries none go =
-    none_first (IsEntryAt count entries) (length entries) (λ n inside before bad. none n (record { inside = inside; misplaced = bad; first = before })) go
+    none_first (IsEntryAt count entries) (length entries) (λ n inside before bad.
+    none n (record { inside = inside; misplaced = bad; first = before })) go
 
 after_relations_are : (bytes : List ℕ) → AreBytes bytes → AreBytes (after_relations bytes)
 after_relations_are bytes are = bytes_drop (8 * relation_count bytes) (after_entries bytes) (after_entries_are bytes are)
@@ -88,7 +102,8 @@ bundle_bytes_are : (bytes : List ℕ) → AreBytes bytes → AreBytes (bundle_by
 bundle_bytes_are bytes are = bytes_take (16 * bundle_count bytes) (after_relations bytes) (after_relations_are bytes are)
 
 -- Where the stages of the head are passed, it is right.
-head_of : (v : Version) (bytes : List ℕ) → 24 ≤ length bytes → Begins v bytes → AreCounts bytes → length bytes ≡ image_length bytes → HasHead v bytes
+head_of : (v : Version) (bytes : List ℕ) → 24 ≤ length bytes → Begins v bytes → AreCounts bytes → length bytes ≡ image_length bytes
+    → HasHead v bytes
 head_of v bytes long begins counts size = record { long = long; begins = begins; counts = counts v begins; size = size }
 
 image_not_open : codec.FaultWhereNoneSpelled → (bytes : List ℕ) → AreBytes bytes → AreNotOpen (image_stages bytes)
@@ -102,7 +117,13 @@ image_not_open some bytes are = (
         unless_not_open (length bytes ≡ image_length bytes) Length,
         λ size. (
           entry_not_open (bundle_count bytes) (entries_of bytes),
-          λ entries. bundles_not_open some (bundle_bytes bytes) (bundle_count bytes) (relation_stages bytes) (length-bundle_bytes begins.0 bytes (head_of begins.0 bytes long begins.1 counts size)) (bundle_bytes_are bytes are) (λ bundles is. (relation_not_open (bundle_bytes bytes) (entries_of bytes) (relations_of bytes) (relation_bytes bytes) bundles is, λ relations. tt)),
+          λ entries. bundles_not_open some (bundle_bytes bytes) (bundle_count bytes) (relation_stages bytes)
+              (length-bundle_bytes begins.0 bytes (head_of begins.0 bytes long begins.1 counts size)) (bundle_bytes_are bytes are)
+              (λ bundles is. (
+                relation_not_open (bundle_bytes bytes) (entries_of bytes) (relations_of bytes)
+                    (relation_bytes bytes) bundles is,
+                λ relations. tt,
+              )),
         ),
       ),
     ),
@@ -112,7 +133,11 @@ image_not_open some bytes are = (
 raw_not_open : codec.FaultWhereNoneSpelled → (bytes : List ℕ) → AreBytes bytes → AreNotOpen (raw_stages bytes)
 raw_not_open some bytes are = (
   unless_not_open (AreInRange (length bytes / 16) 0 0 0) Counts,
-  λ counts. (unless_not_open (length bytes % 16 ≡ 0) Length, λ whole. bundles_not_open some bytes (length bytes / 16) [] (omega arith) are (λ bundles is. tt)),
+  λ counts. (
+    unless_not_open (length bytes % 16 ≡ 0) Length,
+    λ whole.
+        bundles_not_open some bytes (length bytes / 16) [] (omega arith) are (λ bundles is. tt),
+  ),
 )
 
 -- Bundles that have the bytes, with their targets inside and their runs not too long.
@@ -122,7 +147,8 @@ record AreSoundBundles (bytes : List ℕ) : Type 0 where
   targets : EachPlace bundles (IsTargetInside bundles)
   runs : EachPlace bundles (IsWithinRun bundles)
 
-bundles_of : codec.OneBundle → (bytes : List ℕ) (later : List (Stage ImageFault)) → ArePassed (bundle_stages bytes later) → AreSoundBundles bytes
+bundles_of : codec.OneBundle → (bytes : List ℕ) (later : List (Stage ImageFault)) → ArePassed (bundle_stages bytes later)
+    → AreSoundBundles bytes
 bundles_of one bytes later (any, (targets, (runs, others))) = record {
   bundles = targets.0;
   spelled = targets.1;
@@ -131,19 +157,24 @@ bundles_of one bytes later (any, (targets, (runs, others))) = record {
 }
 
 -- The relations are right for all bundles that have the bytes.
-relations_of_passed : codec.OneBundle → (spelled entries : List ℕ) (relations : List Relation) (bytes : List ℕ) → ArePassed (bundle_stages spelled (relation_stage spelled entries relations bytes ∷ [])) → (bundles : List Bundle) → AreSpelled bundles spelled → AreRelationsRight bundles entries relations bytes
+relations_of_passed : codec.OneBundle → (spelled entries : List ℕ) (relations : List Relation) (bytes : List ℕ)
+    → ArePassed (bundle_stages spelled (relation_stage spelled entries relations bytes ∷ [])) → (bundles : List Bundle)
+    → AreSpelled bundles spelled → AreRelationsRight bundles entries relations bytes
 relations_of_passed one spelled entries relations bytes (any, (targets, (runs, (right, done)))) bundles is =
     subst (λ (l : List Bundle). AreRelationsRight l entries relations bytes) (same_bundles one spelled right.0 bundles right.1 is) right.2
 
 -- Where every stage is passed, a program has the image.
 image_of : codec.OneBundle → (bytes : List ℕ) → AreBytes bytes → ArePassed (image_stages bytes) → (p : Program) × Spells p bytes
-image_of one bytes are (long, (begins, (counts, (size, (entries, passed))))) = (p, (begins.0, image_of_parts begins.0 p bytes are program parts padded))
+image_of one bytes are (long, (begins, (counts, (size, (entries, passed))))) =
+    (p, (begins.0, image_of_parts begins.0 p bytes are program parts padded))
   where
     sound : AreSoundBundles (bundle_bytes bytes)
     sound = bundles_of one (bundle_bytes bytes) (relation_stages bytes) passed
 
     right : AreRelationsRight sound.bundles (entries_of bytes) (relations_of bytes) (relation_bytes bytes)
-    right = relations_of_passed one (bundle_bytes bytes) (entries_of bytes) (relations_of bytes) (relation_bytes bytes) passed sound.bundles sound.spelled
+    right =
+        relations_of_passed one (bundle_bytes bytes) (entries_of bytes) (relations_of bytes)
+        (relation_bytes bytes) passed sound.bundles sound.spelled
 
     p : Program
     p = record { bundles = sound.bundles; entries = entries_of bytes; bytes = data_of bytes; relations = relations_of bytes }
@@ -173,7 +204,8 @@ image_of one bytes are (long, (begins, (counts, (size, (entries, passed))))) = (
 
 -- Where every stage of bare bundles is passed, they are those of a program.
 raw_of : codec.OneBundle → (bytes : List ℕ) → ArePassed (raw_stages bytes) → (p : Program) × RawSpells p bytes
-raw_of one bytes (counts, (whole, passed)) = (p, record { program = program; spelled = sound.spelled; no_entries = refl; no_data = refl; no_relations = refl })
+raw_of one bytes (counts, (whole, passed)) =
+    (p, record { program = program; spelled = sound.spelled; no_entries = refl; no_data = refl; no_relations = refl })
   where
     sound : AreSoundBundles bytes
     sound = bundles_of one bytes [] passed
@@ -194,7 +226,8 @@ raw_of one bytes (counts, (whole, passed)) = (p, record { program = program; spe
 
 pub fault_where_none_spelled : codec.OneBundle → codec.FaultWhereNoneSpelled → FaultWhereNoneSpelled
 fault_where_none_spelled one some bytes are none faultless =
-    not_without (image_stages bytes) (image_not_open some bytes are) faultless (λ passed. let is = image_of one bytes are passed in none is.0 is.1)
+    not_without (image_stages bytes) (image_not_open some bytes are) faultless
+    (λ passed. let is = image_of one bytes are passed in none is.0 is.1)
 
 pub fault_where_none_raw : codec.OneBundle → codec.FaultWhereNoneSpelled → FaultWhereNoneRaw
 fault_where_none_raw one some bytes are none faultless =

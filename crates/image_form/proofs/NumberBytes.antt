@@ -20,7 +20,8 @@ pub one_more_read : (n : ℕ) (bytes : List ℕ) → numbers (n + 1) bytes ≡ n
 one_more_read n bytes = ap (λ k. numbers k bytes) (let e : n + 1 ≡ suc n = omega arith in e) ∙ one-more n bytes
 
 -- One number more is written.
-pub one_more_written : (old ns : List ℕ) (n : ℕ) → n < length ns → (old ++ number_bytes (take n ns)) ++ to_le_bytes w32 (slice_index ns n) ≡ old ++ number_bytes (take (n + 1) ns)
+pub one_more_written : (old ns : List ℕ) (n : ℕ) → n < length ns
+    → (old ++ number_bytes (take n ns)) ++ to_le_bytes w32 (slice_index ns n) ≡ old ++ number_bytes (take (n + 1) ns)
 one_more_written old ns n inside =
     flat_map_more (to_le_bytes w32) old (take n ns) (slice_index ns n) ∙ ap (λ l. old ++ number_bytes l) (sym (take_more ns n 0 inside))
 
@@ -42,7 +43,8 @@ pub first_four : (bytes : List ℕ) → 4 ≤ length bytes → AreBytes bytes �
 first_four bytes long are = le_bytes_4 (take 4 bytes) (number_at bytes 0) (simp length-take (omega arith)) (bytes_take 4 bytes are) refl
 
 -- What was read is written as it was.
-pub number_bytes-numbers : (n : ℕ) (bytes : List ℕ) → 4 * n ≤ length bytes → AreBytes bytes → number_bytes (numbers n bytes) ≡ take (4 * n) bytes
+pub number_bytes-numbers : (n : ℕ) (bytes : List ℕ) → 4 * n ≤ length bytes → AreBytes bytes
+    → number_bytes (numbers n bytes) ≡ take (4 * n) bytes
 number_bytes-numbers zero bytes fits are = refl
 number_bytes-numbers (suc n) bytes fits are =
     let rest = number_bytes-numbers n (drop 4 bytes) (rw (length-drop 4 bytes) (omega arith)) (bytes_drop 4 bytes are) in

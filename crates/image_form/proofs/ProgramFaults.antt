@@ -23,11 +23,15 @@ pub record AreChecked (p : Program) : Type 0 where
   pub entries : AreEntries (length p.bundles) p.entries
 
 -- A fault other than that of a relation is the first one of the bytes of the bundles.
-pub other_fault : (p : Program) (spelled : List ℕ) (later : List (Stage ImageFault)) (f : ProgramFault) → AreChecked p → AreSpelled p.bundles spelled → ((n : ℕ) → f ≡ program.Relation n → ⊥) → HasProgramFault p f → IsFirstFault (bundle_stages spelled later) (image_fault f)
+pub other_fault : (p : Program) (spelled : List ℕ) (later : List (Stage ImageFault)) (f : ProgramFault) → AreChecked p
+    → AreSpelled p.bundles spelled → ((n : ℕ) → f ≡ program.Relation n → ⊥) → HasProgramFault p f
+    → IsFirstFault (bundle_stages spelled later) (image_fault f)
 other_fault p spelled later f right is other (inl (key, same, not)) = absurd (not right.counts)
 other_fault p spelled later f right is other (inr (c, inl (n, same, bad))) = absurd (bad.misplaced (right.entries n bad.inside))
-other_fault p spelled later f right is other (inr (c, inr (e, inl (place, same, bad)))) = inr ((p.bundles, is, tt), inl (place, ap image_fault same, (p.bundles, is, bad)))
-other_fault p spelled later f right is other (inr (c, inr (e, inr (t, inl (place, same, bad))))) = inr ((p.bundles, is, tt), inr ((p.bundles, is, t), inl (place, ap image_fault same, (p.bundles, is, bad))))
+other_fault p spelled later f right is other (inr (c, inr (e, inl (place, same, bad)))) =
+    inr ((p.bundles, is, tt), inl (place, ap image_fault same, (p.bundles, is, bad)))
+other_fault p spelled later f right is other (inr (c, inr (e, inr (t, inl (place, same, bad))))) =
+    inr ((p.bundles, is, tt), inr ((p.bundles, is, t), inl (place, ap image_fault same, (p.bundles, is, bad))))
 other_fault p spelled later f right is other (inr (c, inr (e, inr (t, inr (r, inl (n, same, bad)))))) = absurd (other n same)
 other_fault p spelled later f right is other (inr (c, inr (e, inr (t, inr (r, inr none))))) = absurd none.1
 
@@ -52,12 +56,16 @@ last_fault p n right (inr (c, inr (e, inr (t, inr (r, inl (k, same, bad)))))) =
 last_fault p n right (inr (c, inr (e, inr (t, inr (r, inr none))))) = absurd none.1
 
 -- A relation that isn't right is the first fault, where the places of the bundles are right.
-wrong_relation : (bundles : List Bundle) (spelled entries : List ℕ) (relations : List Relation) (bytes : List ℕ) (n : ℕ) → AreSpelled bundles spelled → ArePlacesRight bundles → IsFirstWrong bundles entries relations bytes n → IsFirstFault (bundle_stages spelled (relation_stage spelled entries relations bytes ∷ [])) (RelationFault n)
+wrong_relation : (bundles : List Bundle) (spelled entries : List ℕ) (relations : List Relation) (bytes : List ℕ) (n : ℕ)
+    → AreSpelled bundles spelled → ArePlacesRight bundles → IsFirstWrong bundles entries relations bytes n
+    → IsFirstFault (bundle_stages spelled (relation_stage spelled entries relations bytes ∷ [])) (RelationFault n)
 wrong_relation bundles spelled entries relations bytes n is right first =
     inr ((bundles, is, tt), inr ((bundles, is, right.targets), inr ((bundles, is, right.runs), inl (n, refl, (bundles, is, first)))))
 
 -- The first relation whose last two bytes aren't zero is the first fault of a program's.
-pub unpadded_fault : (p : Program) (spelled bytes : List ℕ) (n : ℕ) → IsProgram p → AreSpelled p.bundles spelled → IsFirstUnpadded (length p.relations) bytes n → IsFirstFault (bundle_stages spelled (relation_stage spelled p.entries p.relations bytes ∷ [])) (RelationFault n)
+pub unpadded_fault : (p : Program) (spelled bytes : List ℕ) (n : ℕ) → IsProgram p → AreSpelled p.bundles spelled
+    → IsFirstUnpadded (length p.relations) bytes n → IsFirstFault
+    (bundle_stages spelled (relation_stage spelled p.entries p.relations bytes ∷ [])) (RelationFault n)
 unpadded_fault p spelled bytes n right is first =
     wrong_relation p.bundles spelled p.entries p.relations bytes n is (record { targets = right.targets; runs = right.runs }) (record {
       inside = first.inside;
@@ -66,7 +74,9 @@ unpadded_fault p spelled bytes n right is first =
     })
 
 -- The smaller number of the first relation that may not be declared and of the first whose last two bytes aren't zero.
-first_wrong : (bundles : List Bundle) (entries : List ℕ) (relations : List Relation) (bytes : List ℕ) (n : ℕ) (unpadded : Option ℕ) → MatchOption unpadded (ArePadded (length relations) bytes) (IsFirstUnpadded (length relations) bytes) → IsFirstMisdeclared bundles entries relations n → IsFirstWrong bundles entries relations bytes (min (unwrap_or unpadded n) n)
+first_wrong : (bundles : List Bundle) (entries : List ℕ) (relations : List Relation) (bytes : List ℕ) (n : ℕ) (unpadded : Option ℕ)
+    → MatchOption unpadded (ArePadded (length relations) bytes) (IsFirstUnpadded (length relations) bytes)
+    → IsFirstMisdeclared bundles entries relations n → IsFirstWrong bundles entries relations bytes (min (unwrap_or unpadded n) n)
 first_wrong bundles entries relations bytes n None padded bad =
     let e : min n n ≡ n = omega arith in
     rw e (record {
@@ -88,7 +98,11 @@ first_wrong bundles entries relations bytes n (Some m) pad bad = elim (cases_lt 
 ]
 
 -- The first relation that may not be declared, or whose last two bytes aren't zero, is the first fault.
-pub relation_fault : (p : Program) (spelled bytes : List ℕ) (n : ℕ) (unpadded : Option ℕ) → AreChecked p → AreSpelled p.bundles spelled → MatchOption unpadded (ArePadded (length p.relations) bytes) (IsFirstUnpadded (length p.relations) bytes) → HasProgramFault p (program.Relation n) → IsFirstFault (bundle_stages spelled (relation_stage spelled p.entries p.relations bytes ∷ [])) (RelationFault (min (unwrap_or unpadded n) n))
+pub relation_fault : (p : Program) (spelled bytes : List ℕ) (n : ℕ) (unpadded : Option ℕ) → AreChecked p → AreSpelled p.bundles spelled
+    → MatchOption unpadded (ArePadded (length p.relations) bytes) (IsFirstUnpadded (length p.relations) bytes)
+    → HasProgramFault p (program.Relation n) → IsFirstFault (bundle_stages spelled
+    (relation_stage spelled p.entries p.relations bytes ∷ [])) (RelationFault (min (unwrap_or unpadded n) n))
 relation_fault p spelled bytes n unpadded right is pads fault =
     let last = last_fault p n right fault in
-    wrong_relation p.bundles spelled p.entries p.relations bytes (min (unwrap_or unpadded n) n) is last.places (first_wrong p.bundles p.entries p.relations bytes n unpadded pads last.first)
+    wrong_relation p.bundles spelled p.entries p.relations bytes (min (unwrap_or unpadded n) n) is last.places
+    (first_wrong p.bundles p.entries p.relations bytes n unpadded pads last.first)

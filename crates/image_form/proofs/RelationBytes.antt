@@ -22,7 +22,8 @@ relation_in-drop n at bytes = same_relation (relation_in (drop n bytes) at) (rel
 one-more : (n : ℕ) (bytes : List ℕ) → relations_in (suc n) bytes ≡ relations_in n bytes ++ relation_in bytes (8 * n) ∷ []
 one-more zero bytes = refl
 one-more (suc n) bytes =
-    let e : relation_in (drop 8 bytes) (8 * n) ≡ relation_in bytes (8 * suc n) = relation_in-drop 8 (8 * n) bytes ∙ ap (relation_in bytes) (omega arith) in
+    let e : relation_in (drop 8 bytes) (8 * n) ≡ relation_in bytes (8 * suc n) =
+    relation_in-drop 8 (8 * n) bytes ∙ ap (relation_in bytes) (omega arith) in
     ap (λ l. relation_in bytes 0 ∷ l) (one-more n (drop 8 bytes) ∙ ap (λ r. relations_in n (drop 8 bytes) ++ r ∷ []) e)
 
 -- One relation more is read.
@@ -30,7 +31,8 @@ pub one_more_read : (n : ℕ) (bytes : List ℕ) → relations_in (n + 1) bytes 
 one_more_read n bytes = ap (λ k. relations_in k bytes) (let e : n + 1 ≡ suc n = omega arith in e) ∙ one-more n bytes
 
 -- One relation more is written.
-pub one_more_written : (old : List ℕ) (rs : List Relation) (n : ℕ) (r : Relation) → n < length rs → (old ++ written_relations (take n rs)) ++ eight_bytes (slice_index_or rs n r) ≡ old ++ written_relations (take (n + 1) rs)
+pub one_more_written : (old : List ℕ) (rs : List Relation) (n : ℕ) (r : Relation) → n < length rs
+    → (old ++ written_relations (take n rs)) ++ eight_bytes (slice_index_or rs n r) ≡ old ++ written_relations (take (n + 1) rs)
 one_more_written old rs n r inside =
     flat_map_more eight_bytes old (take n rs) (slice_index_or rs n r) ∙ ap (λ l. old ++ written_relations l) (sym (take_more rs n r inside))
 
@@ -53,7 +55,8 @@ padded_back bytes n is = record {
 }
 
 -- Four bytes, one by one.
-four : (bytes : List ℕ) → 4 ≤ length bytes → take 4 bytes ≡ slice_index bytes 0 ∷ slice_index bytes 1 ∷ slice_index bytes 2 ∷ slice_index bytes 3 ∷ []
+four : (bytes : List ℕ) → 4 ≤ length bytes → take 4 bytes ≡ slice_index bytes 0 ∷ slice_index bytes 1 ∷ slice_index bytes 2 ∷ slice_index
+    bytes 3 ∷ []
 four [] long = absurd (omega arith)
 four (a ∷ []) long = absurd (omega arith)
 four (a ∷ b ∷ []) long = absurd (omega arith)
@@ -61,16 +64,21 @@ four (a ∷ b ∷ c ∷ []) long = absurd (omega arith)
 four (a ∷ b ∷ c ∷ d ∷ rest) long = refl
 
 -- The second four of eight bytes of which the last two are zero.
-second_four : (bytes : List ℕ) → 8 ≤ length bytes → IsPadded bytes 0 → slice_index bytes 4 ∷ slice_index bytes 5 ∷ 0 ∷ 0 ∷ [] ≡ take 4 (drop 4 bytes)
+second_four : (bytes : List ℕ) → 8 ≤ length bytes → IsPadded bytes 0
+    → slice_index bytes 4 ∷ slice_index bytes 5 ∷ 0 ∷ 0 ∷ [] ≡ take 4 (drop 4 bytes)
 second_four bytes long is =
     sym (four (drop 4 bytes) (simp length-drop (omega arith))
-    ∙ (λ i. get_or-drop 4 bytes 0 0 i ∷ get_or-drop 4 bytes 1 0 i ∷ (get_or-drop 4 bytes 2 0 ∙ is.first) i ∷ (get_or-drop 4 bytes 3 0 ∙ is.second) i ∷ []))
+    ∙ (λ i. get_or-drop 4 bytes 0 0 i ∷ get_or-drop 4 bytes 1 0 i ∷ (get_or-drop 4 bytes 2 0 ∙ is.first)
+    i ∷ (get_or-drop 4 bytes 3 0 ∙ is.second) i ∷ []))
 
 -- What was read is written as it was, where the last two bytes of each are zero.
-pub written-relations_in : (n : ℕ) (bytes : List ℕ) → 8 * n ≤ length bytes → AreBytes bytes → ArePadded n bytes → written_relations (relations_in n bytes) ≡ take (8 * n) bytes
+pub written-relations_in : (n : ℕ) (bytes : List ℕ) → 8 * n ≤ length bytes → AreBytes bytes → ArePadded n bytes
+    → written_relations (relations_in n bytes) ≡ take (8 * n) bytes
 written-relations_in zero bytes fits are padded = refl
 written-relations_in (suc n) bytes fits are padded =
-    let rest : written_relations (relations_in n (drop 8 bytes)) ≡ take (8 * n) (drop 8 bytes) = written-relations_in n (drop 8 bytes) (simp length-drop (omega arith)) (bytes_drop 8 bytes are) (λ k less. padded_on bytes k (padded (suc k) (omega arith))) in
+    let rest : written_relations (relations_in n (drop 8 bytes)) ≡ take (8 * n) (drop 8 bytes) =
+    written-relations_in n (drop 8 bytes) (simp length-drop (omega arith)) (bytes_drop 8 bytes are)
+    (λ k less. padded_on bytes k (padded (suc k) (omega arith))) in
     let here : eight_bytes (relation_in bytes 0) ≡ take 8 bytes =
     ap (λ l. l ++ (slice_index bytes 4 ∷ slice_index bytes 5 ∷ 0 ∷ 0 ∷ [])) (first_four bytes (omega arith) are)
     ∙ ap (λ l. take 4 bytes ++ l) (second_four bytes (omega arith) (padded 0 (omega arith)))
@@ -88,7 +96,9 @@ HaveSmallBundles rs = (k : ℕ) → k < length rs → (relation_at rs k).bundle 
 pub relations_in-written : (rs : List Relation) → HaveSmallBundles rs → relations_in (length rs) (written_relations rs) ≡ rs
 relations_in-written [] small = refl
 relations_in-written (r ∷ rs) small =
-    let first : relation_in (written_relations (r ∷ rs)) 0 ≡ r = same_relation (relation_in (written_relations (r ∷ rs)) 0) r (from_le_bytes-to_le_bytes_4 r.bundle (small 0 (omega arith))) refl refl in
+    let first : relation_in (written_relations (r ∷ rs)) 0 ≡ r =
+    same_relation (relation_in (written_relations (r ∷ rs)) 0) r (from_le_bytes-to_le_bytes_4 r.bundle (small 0 (omega arith))) refl
+    refl in
     let later : relations_in (length rs) (written_relations rs) ≡ rs = relations_in-written rs (λ k less. small (suc k) (omega arith)) in
     λ i. first i ∷ later i
 

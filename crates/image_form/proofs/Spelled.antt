@@ -27,12 +27,16 @@ rest_is : (bytes front rest : List ℕ) → bytes ≡ front ++ rest → length f
 rest_is bytes front rest whole size = ap (drop 16) whole ∙ drop_at front rest 16 size
 
 -- The first bundle has the first sixteen bytes, and the others have the others.
-pub spelled_first : (b : Bundle) (bs : List Bundle) (bytes : List ℕ) → AreSpelled (b ∷ bs) bytes → IsSpelled b (take 16 bytes) × AreSpelled bs (drop 16 bytes)
-spelled_first b bs bytes (front, rest, whole, is, more) =
-    (subst (IsSpelled b) (sym (front_is bytes front rest whole is.are.count)) is, subst (AreSpelled bs) (sym (rest_is bytes front rest whole is.are.count)) more)
+pub spelled_first : (b : Bundle) (bs : List Bundle) (bytes : List ℕ) → AreSpelled (b ∷ bs) bytes
+    → IsSpelled b (take 16 bytes) × AreSpelled bs (drop 16 bytes)
+spelled_first b bs bytes (front, rest, whole, is, more) = (
+  subst (IsSpelled b) (sym (front_is bytes front rest whole is.are.count)) is,
+  subst (AreSpelled bs) (sym (rest_is bytes front rest whole is.are.count)) more,
+)
 
 -- One bundle more.
-pub spelled_push : (bundles : List Bundle) (b : Bundle) (bytes next : List ℕ) → AreSpelled bundles bytes → IsSpelled b next → AreSpelled (bundles ++ b ∷ []) (bytes ++ next)
+pub spelled_push : (bundles : List Bundle) (b : Bundle) (bytes next : List ℕ) → AreSpelled bundles bytes → IsSpelled b next
+    → AreSpelled (bundles ++ b ∷ []) (bytes ++ next)
 spelled_push [] b bytes next none is = (next, [], rw none (sym (append-nil next)), is, refl)
 spelled_push (x ∷ bs) b bytes next (front, rest, whole, is, more) last =
     (front, rest ++ next, ap (λ l. l ++ next) whole ∙ append_assoc front rest next, is, spelled_push bs b rest next more last)
@@ -56,7 +60,8 @@ same_bytes one (b ∷ bs) x y (f, r, e, s, more) (g, q, d, t, others) =
     e ∙ ap (λ l. l ++ r) (one b f g s t) ∙ ap (λ l. g ++ l) (same_bytes one bs r q more others) ∙ sym d
 
 -- Each sixteen bytes of spelled bundles are a bundle, whatever follows them.
-pub spelled_chunk : (bundles : List Bundle) (bytes after : List ℕ) (n : ℕ) → AreSpelled bundles bytes → n < length bundles → IsBundleBytes (chunk (bytes ++ after) n)
+pub spelled_chunk : (bundles : List Bundle) (bytes after : List ℕ) (n : ℕ) → AreSpelled bundles bytes → n < length bundles
+    → IsBundleBytes (chunk (bytes ++ after) n)
 spelled_chunk [] bytes after n none less = absurd (omega arith)
 spelled_chunk (b ∷ bs) bytes after zero (front, rest, whole, is, more) less =
     let e : bytes ++ after ≡ front ++ (rest ++ after) = ap (λ l. l ++ after) whole ∙ append_assoc front rest after in
@@ -64,17 +69,24 @@ spelled_chunk (b ∷ bs) bytes after zero (front, rest, whole, is, more) less =
 spelled_chunk (b ∷ bs) bytes after (suc n) (front, rest, whole, is, more) less =
     let e : bytes ++ after ≡ front ++ (rest ++ after) = ap (λ l. l ++ after) whole ∙ append_assoc front rest after in
     let left : rest ++ after ≡ drop 16 (bytes ++ after) = sym (rest_is (bytes ++ after) front (rest ++ after) e is.are.count) in
-    let same : chunk (rest ++ after) n ≡ chunk (bytes ++ after) (suc n) = ap (λ l. take 16 (drop (16 * n) l)) left ∙ ap (take 16) (drop-drop (16 * n) 16 (bytes ++ after) ∙ ap (λ k. drop k (bytes ++ after)) (omega arith)) in
+    let same : chunk (rest ++ after) n ≡ chunk (bytes ++ after) (suc n) =
+    ap (λ l. take 16 (drop (16 * n) l)) left ∙ ap (take 16) (drop-drop (16 * n) 16 (bytes ++ after)
+    ∙ ap (λ k. drop k (bytes ++ after)) (omega arith)) in
     subst IsBundleBytes same (spelled_chunk bs rest after n more (omega arith))
 
 -- Where each sixteen bytes are a bundle, all are bundles.
-pub all_spelled : (bytes : List ℕ) (n : ℕ) → ((k : ℕ) → k < n → IsBundleBytes (chunk bytes k)) → (bundles : List Bundle) × AreSpelled bundles (take (16 * n) bytes)
+pub all_spelled : (bytes : List ℕ) (n : ℕ) → ((k : ℕ) → k < n → IsBundleBytes (chunk bytes k))
+    → (bundles : List Bundle) × AreSpelled bundles (take (16 * n) bytes)
 all_spelled bytes zero each = ([], refl)
 all_spelled bytes (suc n) each =
     let before = all_spelled bytes n (λ k less. each k (omega arith)) in
     let last = each n (omega arith) in
-    let whole : take (16 * n) bytes ++ chunk bytes n ≡ take (16 * suc n) bytes = sym (take-add (16 * n) 16 bytes) ∙ ap (λ k. take k bytes) (omega arith) in
-    (before.0 ++ last.0 ∷ [], subst (AreSpelled (before.0 ++ last.0 ∷ [])) whole (spelled_push before.0 last.0 (take (16 * n) bytes) (chunk bytes n) before.1 last.1))
+    let whole : take (16 * n) bytes ++ chunk bytes n ≡ take (16 * suc n) bytes =
+    sym (take-add (16 * n) 16 bytes) ∙ ap (λ k. take k bytes) (omega arith) in (
+      before.0 ++ last.0 ∷ [],
+      subst (AreSpelled (before.0 ++ last.0 ∷ [])) whole
+          (spelled_push before.0 last.0 (take (16 * n) bytes) (chunk bytes n) before.1 last.1),
+    )
 
 -- The instructions of spelled bundles fit their templates.
 pub spelled_fit : (bundles : List Bundle) (bytes : List ℕ) → AreSpelled bundles bytes → AreBundles bundles
@@ -88,33 +100,44 @@ pub record IsReadTo (bytes : List ℕ) (bundles : List Bundle) (rest : List ℕ)
   pub whole : bytes ≡ front ++ rest
   pub spelled : AreSpelled bundles front
 
-pub one_more_read : (bytes : List ℕ) (bundles : List Bundle) (rest next after : List ℕ) (b : Bundle) → next ≡ take 16 rest → after ≡ drop 16 rest → IsSpelled b next → IsReadTo bytes bundles rest → IsReadTo bytes (bundles ++ b ∷ []) after
+pub one_more_read : (bytes : List ℕ) (bundles : List Bundle) (rest next after : List ℕ) (b : Bundle) → next ≡ take 16 rest
+    → after ≡ drop 16 rest → IsSpelled b next → IsReadTo bytes bundles rest → IsReadTo bytes (bundles ++ b ∷ []) after
 one_more_read bytes bundles rest next after b front back is r = record {
   front = r.front ++ next;
-  whole = r.whole ∙ ap (λ l. r.front ++ l) (sym (take-append-drop 16 rest) ∙ ap (λ l. l ++ drop 16 rest) (sym front) ∙ ap (λ l. next ++ l) (sym back)) ∙ sym (append_assoc r.front next after);
+  whole =
+      r.whole ∙ ap (λ l. r.front ++ l) (sym (take-append-drop 16 rest) ∙ ap (λ l. l ++ drop 16 rest) (sym front)
+      ∙ ap (λ l. next ++ l) (sym back)) ∙ sym (append_assoc r.front next after);
   spelled = spelled_push bundles b r.front next r.spelled is;
 }
 
-pub all_read : (bytes : List ℕ) (bundles : List Bundle) (rest : List ℕ) → length rest ≡ 0 → IsReadTo bytes bundles rest → AreSpelled bundles bytes
+pub all_read : (bytes : List ℕ) (bundles : List Bundle) (rest : List ℕ) → length rest ≡ 0 → IsReadTo bytes bundles rest
+    → AreSpelled bundles bytes
 all_read bytes bundles rest none r =
     subst (AreSpelled bundles) (sym (r.whole ∙ ap (λ l. r.front ++ l) (nil_from_length rest none) ∙ append-nil r.front)) r.spelled
 
 -- How many bytes are left.
-pub bytes_left : (bytes : List ℕ) (bundles : List Bundle) (rest : List ℕ) → IsReadTo bytes bundles rest → length bytes ≡ 16 * length bundles + length rest
+pub bytes_left : (bytes : List ℕ) (bundles : List Bundle) (rest : List ℕ) → IsReadTo bytes bundles rest
+    → length bytes ≡ 16 * length bundles + length rest
 bytes_left bytes bundles rest r = ap length r.whole ∙ length-append r.front rest ∙ omega (arith, spelled_length bundles r.front r.spelled)
 
 -- The next sixteen bytes are no bundle.
-pub first_unspelled : (bytes : List ℕ) (bundles : List Bundle) (rest next : List ℕ) (n : ℕ) (why : SlotFault) → next ≡ take 16 rest → 16 ≤ length rest → n ≡ length bundles → HasSlotFault next why → IsReadTo bytes bundles rest → IsFirstUnspelled bytes n why
+pub first_unspelled : (bytes : List ℕ) (bundles : List Bundle) (rest next : List ℕ) (n : ℕ) (why : SlotFault) → next ≡ take 16 rest
+    → 16 ≤ length rest → n ≡ length bundles → HasSlotFault next why → IsReadTo bytes bundles rest → IsFirstUnspelled bytes n why
 first_unspelled bytes bundles rest next n why front long count fault r =
     let size : length r.front ≡ 16 * n = spelled_length bundles r.front r.spelled ∙ omega arith in
     let left : drop (16 * n) bytes ≡ rest = ap (drop (16 * n)) r.whole ∙ drop_at r.front rest (16 * n) size in
     record {
       inside = omega (arith, bytes_left bytes bundles rest r);
       fault = subst (λ (l : List ℕ). HasSlotFault l why) (front ∙ ap (take 16) (sym left)) fault;
-      first = λ k less. subst (λ (l : List ℕ). IsBundleBytes (chunk l k)) (sym r.whole) (spelled_chunk bundles r.front rest k r.spelled (omega arith));
+      first =
+          λ k less. subst (λ (l : List ℕ). IsBundleBytes (chunk l k)) (sym r.whole)
+          (spelled_chunk bundles r.front rest k r.spelled (omega arith));
     }
 
 -- One bundle more has been written.
-pub one_more_written : (bundles : List Bundle) (n : ℕ) (bytes next : List ℕ) (b : Bundle) → n < length bundles → b ≡ slice_index_or bundles n b → IsSpelled b next → AreSpelled (take n bundles) bytes → AreSpelled (take (n + 1) bundles) (bytes ++ next)
+pub one_more_written : (bundles : List Bundle) (n : ℕ) (bytes next : List ℕ) (b : Bundle) → n < length bundles
+    → b ≡ slice_index_or bundles n b → IsSpelled b next → AreSpelled (take n bundles) bytes
+    → AreSpelled (take (n + 1) bundles) (bytes ++ next)
 one_more_written bundles n bytes next b inside is spelled before =
-    subst (λ (l : List Bundle). AreSpelled l (bytes ++ next)) (ap (λ x. take n bundles ++ x ∷ []) is ∙ sym (take_more bundles n b inside)) (spelled_push (take n bundles) b bytes next before spelled)
+    subst (λ (l : List Bundle). AreSpelled l (bytes ++ next)) (ap (λ x. take n bundles ++ x ∷ []) is ∙ sym (take_more bundles n b inside))
+    (spelled_push (take n bundles) b bytes next before spelled)

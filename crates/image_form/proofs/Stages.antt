@@ -40,7 +40,9 @@ counts_hold v bytes h w begins = subst (λ (u : Version). AreCountsOf u bytes) (
 spelling_sound : codec.OneFault → codec.NoFaultWhereSpelled → (bytes : List ℕ) → IsSound (spelling_stage bytes)
 spelling_sound one none bytes = record {
   one = λ a b f g.
-      let same : a.0 ≡ b.0 = one_first (λ k. IsBundleBytes (chunk bytes k)) a.0 b.0 f.first (λ is. none is.0 (chunk bytes a.0) a.1 is.1 f.fault) g.first (λ is. none is.0 (chunk bytes b.0) b.1 is.1 g.fault) in
+      let same : a.0 ≡ b.0 =
+      one_first (λ k. IsBundleBytes (chunk bytes k)) a.0 b.0 f.first (λ is. none is.0 (chunk bytes a.0) a.1 is.1 f.fault) g.first
+      (λ is. none is.0 (chunk bytes b.0) b.1 is.1 g.fault) in
       let why : a.1 ≡ b.1 = one (chunk bytes b.0) a.1 b.1 (subst (λ (k : ℕ). HasSlotFault (chunk bytes k) a.1) same f.fault) g.fault in
       λ i. (same i, why i);
   none = λ a f s.
@@ -49,7 +51,8 @@ spelling_sound one none bytes = record {
 }
 
 -- At most one place of the bundles is the first that isn't a good one.
-place_sound : codec.OneBundle → (bytes : List ℕ) (fault : Place → ImageFault) (Good : List Bundle → Place → Type 0) → IsSound (place_stage bytes fault Good)
+place_sound : codec.OneBundle → (bytes : List ℕ) (fault : Place → ImageFault) (Good : List Bundle → Place → Type 0)
+    → IsSound (place_stage bytes fault Good)
 place_sound one bytes fault Good = record {
   one = λ p q a b.
       let same = same_bundles one bytes a.0 b.0 a.1 b.1 in
@@ -60,7 +63,8 @@ place_sound one bytes fault Good = record {
 }
 
 -- At most one relation is the first that isn't right for the bundles.
-relation_sound : codec.OneBundle → (spelled entries : List ℕ) (relations : List Relation) (bytes : List ℕ) → IsSound (relation_stage spelled entries relations bytes)
+relation_sound : codec.OneBundle → (spelled entries : List ℕ) (relations : List Relation) (bytes : List ℕ)
+    → IsSound (relation_stage spelled entries relations bytes)
 relation_sound one spelled entries relations bytes = record {
   one = λ m n a b.
       let same = same_bundles one spelled a.0 b.0 a.1 b.1 in
@@ -71,8 +75,10 @@ relation_sound one spelled entries relations bytes = record {
       a.2.wrong (subst (λ (l : List Bundle). AreRelationsRight l entries relations bytes) same s.2 n a.2.inside);
 }
 
-bundles_sound : codec.OneBundle → codec.OneFault → codec.NoFaultWhereSpelled → (bytes : List ℕ) (later : List (Stage ImageFault)) → AreSound later → AreSound (bundle_stages bytes later)
-bundles_sound bundle one none bytes later sound = (spelling_sound one none bytes, (place_sound bundle bytes Target IsTargetInside, (place_sound bundle bytes LongRun IsWithinRun, sound)))
+bundles_sound : codec.OneBundle → codec.OneFault → codec.NoFaultWhereSpelled → (bytes : List ℕ) (later : List (Stage ImageFault))
+    → AreSound later → AreSound (bundle_stages bytes later)
+bundles_sound bundle one none bytes later sound =
+    (spelling_sound one none bytes, (place_sound bundle bytes Target IsTargetInside, (place_sound bundle bytes LongRun IsWithinRun, sound)))
 
 -- An image and bare bundles have at most one first fault, and none where every stage is passed.
 pub image_sound : codec.OneBundle → codec.OneFault → codec.NoFaultWhereSpelled → (bytes : List ℕ) → AreSound (image_stages bytes)
@@ -86,7 +92,8 @@ image_sound bundle one none bytes = (
         unless_sound (length bytes ≡ image_length bytes) Length,
         (
           misplaced_sound Entry (bundle_count bytes) (entries_of bytes),
-          bundles_sound bundle one none (bundle_bytes bytes) (relation_stages bytes) (relation_sound bundle (bundle_bytes bytes) (entries_of bytes) (relations_of bytes) (relation_bytes bytes), tt),
+          bundles_sound bundle one none (bundle_bytes bytes) (relation_stages bytes)
+              (relation_sound bundle (bundle_bytes bytes) (entries_of bytes) (relations_of bytes) (relation_bytes bytes), tt),
         ),
       ),
     ),
@@ -100,15 +107,20 @@ raw_sound bundle one none bytes = (
 )
 
 -- Where the head is right, the first fault is one of the entries.
-pub fault_of_entries : (v : Version) (bytes : List ℕ) (f : ImageFault) → HasHead v bytes → IsFirstFault (entry_stage (bundle_count bytes) (entries_of bytes) ∷ []) f → HasImageFault bytes f
+pub fault_of_entries : (v : Version) (bytes : List ℕ) (f : ImageFault) → HasHead v bytes
+    → IsFirstFault (entry_stage (bundle_count bytes) (entries_of bytes) ∷ []) f → HasImageFault bytes f
 fault_of_entries v bytes f h (inl found) = inr (h.long, inr ((v, h.begins), inr (counts_hold v bytes h, inr (h.size, inl found))))
 fault_of_entries v bytes f h (inr none) = absurd none.1
 
 -- Where the entries are right too, it is one of the bundles or of the relations.
-pub fault_of_bundles : (v : Version) (bytes : List ℕ) (f : ImageFault) → HasHead v bytes → AreEntries (bundle_count bytes) (entries_of bytes) → IsFirstFault (bundle_stages (bundle_bytes bytes) (relation_stages bytes)) f → HasImageFault bytes f
-fault_of_bundles v bytes f h entries later = inr (h.long, inr ((v, h.begins), inr (counts_hold v bytes h, inr (h.size, inr (entries, later)))))
+pub fault_of_bundles : (v : Version) (bytes : List ℕ) (f : ImageFault) → HasHead v bytes
+    → AreEntries (bundle_count bytes) (entries_of bytes) → IsFirstFault (bundle_stages (bundle_bytes bytes) (relation_stages bytes)) f
+    → HasImageFault bytes f
+fault_of_bundles v bytes f h entries later =
+    inr (h.long, inr ((v, h.begins), inr (counts_hold v bytes h, inr (h.size, inr (entries, later)))))
 
 -- Sixteen bytes that are no bundle are the first fault of the bundles, whatever is looked for later.
-pub fault_of_spelling : (bytes : List ℕ) (later : List (Stage ImageFault)) (f : ImageFault) → IsFirstFault (spelling_stage bytes ∷ []) f → IsFirstFault (bundle_stages bytes later) f
+pub fault_of_spelling : (bytes : List ℕ) (later : List (Stage ImageFault)) (f : ImageFault) → IsFirstFault (spelling_stage bytes ∷ []) f
+    → IsFirstFault (bundle_stages bytes later) f
 fault_of_spelling bytes later f (inl found) = inl found
 fault_of_spelling bytes later f (inr none) = absurd none.1

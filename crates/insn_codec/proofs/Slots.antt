@@ -29,7 +29,8 @@ fit_units units slots words s = absurd s
 abbrev HasThree : Option Shape → Type 0
 HasThree shape = IsSome shape → length (unwrap_or shape no_shape).units ≡ 3
 
-one_more : (test : Bool) (u v w : ExecutionUnit) (inner : List ℕ) (others : Option Shape) → HasThree others → HasThree (cond test (shape u v w inner) others)
+one_more : (test : Bool) (u v w : ExecutionUnit) (inner : List ℕ) (others : Option Shape) → HasThree others
+    → HasThree (cond test (shape u v w inner) others)
 one_more true u v w inner others have is = refl
 one_more false u v w inner others have is = have is
 
@@ -43,7 +44,8 @@ pub template_units : (code : ℕ) → IsTemplate code → length (units_of code)
 template_units code = three_units (code / 2)
 
 -- Three items, one by one.
-pub three_items : {A : Type 0} (d : A) (xs : List A) → length xs ≡ 3 → (slice_index_or xs 0 d ∷ slice_index_or xs 1 d ∷ slice_index_or xs 2 d ∷ []) ≡ xs
+pub three_items : {A : Type 0} (d : A) (xs : List A) → length xs ≡ 3
+    → (slice_index_or xs 0 d ∷ slice_index_or xs 1 d ∷ slice_index_or xs 2 d ∷ []) ≡ xs
 three_items d [] n = absurd (omega arith)
 three_items d (x ∷ []) n = absurd (omega arith)
 three_items d (x ∷ y ∷ []) n = absurd (omega arith)
@@ -64,12 +66,14 @@ parts_of b bytes raw s e =
       slots = subst (λ (t : ℕ). StandIn (units_of t) b.slots s.raw.slots) (sym s.code) s.slots;
     })
 
-pub same_bundle : (b : Bundle) (template : ℕ) (slots : Slots) → template ≡ b.template → slots ≡ b.slots → (let x : Bundle = record { template = template; slots = slots } in x) ≡ b
+pub same_bundle : (b : Bundle) (template : ℕ) (slots : Slots) → template ≡ b.template → slots ≡ b.slots
+    → (let x : Bundle = record { template = template; slots = slots } in x) ≡ b
 same_bundle b template slots t s = λ i. record { template = t i; slots = s i }
 
 -- A template and three words, of a template's width and of a slot's.
 abbrev pub parts : ℕ → List ℕ → RawBundle
 parts template words = record { template = template; slots = words }
 
-pub same_number : (raw : RawBundle) (template : ℕ) (words : List ℕ) → raw.template ≡ template → raw.slots ≡ words → bundle_number raw ≡ bundle_number (parts template words)
+pub same_number : (raw : RawBundle) (template : ℕ) (words : List ℕ) → raw.template ≡ template → raw.slots ≡ words
+    → bundle_number raw ≡ bundle_number (parts template words)
 same_number raw template words t s = λ i. bundle_number (parts (t i) (s i))

@@ -53,7 +53,8 @@ of_kinds (s ∷ ss) (x ∷ xs) = of_kind s x ∷ of_kinds ss xs
 of_kinds ss xs = []
 
 -- An opcode's values are of the same kinds, whatever they are.
-shaped : (k : Opcode) (a b d e f g h : Value) → values_of (insn_of k (at (a ∷ b ∷ d ∷ e ∷ f ∷ g ∷ h ∷ []))) ≡ of_kinds (values_of (insn_of k (λ n. v.Absent))) (a ∷ b ∷ d ∷ e ∷ f ∷ g ∷ h ∷ [])
+shaped : (k : Opcode) (a b d e f g h : Value) → values_of (insn_of k (at (a ∷ b ∷ d ∷ e ∷ f ∷ g ∷ h ∷ [])))
+    ≡ of_kinds (values_of (insn_of k (λ n. v.Absent))) (a ∷ b ∷ d ∷ e ∷ f ∷ g ∷ h ∷ [])
 shaped (o.Load kind kinds.None) a b d e f g h = refl
 shaped (o.Load kind u) a b d e f g h = refl
 shaped (o.Store kind kinds.None) a b d e f g h = refl
@@ -87,10 +88,13 @@ kept coding w s x h t = grind arith
 
 all_kept : (os : List Operand) (ss xs : List Value) → are_of_kind os ss ≡ true → AllTake os xs → of_kinds ss xs ≡ xs
 all_kept [] [] [] h t = refl
-all_kept (o ∷ os) (s ∷ ss) (x ∷ xs) h t = λ i. kept o.coding (operand_width o) s x (both-left _ _ h) t.0 i ∷ all_kept os ss xs (both-right _ _ h) t.1 i
+all_kept (o ∷ os) (s ∷ ss) (x ∷ xs) h t =
+    λ i. kept o.coding (operand_width o) s x (both-left _ _ h) t.0 i ∷ all_kept os ss xs (both-right _ _ h) t.1 i
 all_kept os ss xs h t = grind arith
 
 -- The instruction that a row makes of values has these values.
-pub values_of_insn : (k : Opcode) (os : List Operand) (a b d e f g h : Value) → are_of_kind os (values_of (insn_of k (λ n. v.Absent))) ≡ true → AllTake os (a ∷ b ∷ d ∷ e ∷ f ∷ g ∷ h ∷ []) → values_of (insn_of k (at (a ∷ b ∷ d ∷ e ∷ f ∷ g ∷ h ∷ []))) ≡ a ∷ b ∷ d ∷ e ∷ f ∷ g ∷ h ∷ []
+pub values_of_insn : (k : Opcode) (os : List Operand) (a b d e f g h : Value)
+    → are_of_kind os (values_of (insn_of k (λ n. v.Absent))) ≡ true → AllTake os (a ∷ b ∷ d ∷ e ∷ f ∷ g ∷ h ∷ [])
+    → values_of (insn_of k (at (a ∷ b ∷ d ∷ e ∷ f ∷ g ∷ h ∷ []))) ≡ a ∷ b ∷ d ∷ e ∷ f ∷ g ∷ h ∷ []
 values_of_insn k os a b d e f g h kind t =
     shaped k a b d e f g h ∙ all_kept os (values_of (insn_of k (λ n. v.Absent))) (a ∷ b ∷ d ∷ e ∷ f ∷ g ∷ h ∷ []) kind t

@@ -76,7 +76,8 @@ code_fits c.Short w (v.Short z) t s = twos-fits w (leb-true _ _ (both-left _ _ s
 code_fits c.Displacement w (v.Displacement z) t s = twos-fits w (leb-true _ _ (both-left _ _ s)) z t
 code_fits coding w x t s = absurd t
 
-rotating_back : (w : ℕ) (z : ℤ) → FitsSigned (w + 16) z → twos (w + 16) z % 2 ^ 16 ≡ 0 → signed_of (w + 16) (twos (w + 16) z / 2 ^ 16 * 2 ^ 16) ≡ z
+rotating_back : (w : ℕ) (z : ℤ) → FitsSigned (w + 16) z → twos (w + 16) z % 2 ^ 16 ≡ 0
+    → signed_of (w + 16) (twos (w + 16) z / 2 ^ 16 * 2 ^ 16) ≡ z
 rotating_back w z fit low =
     let e : twos (w + 16) z / 2 ^ 16 * 2 ^ 16 ≡ twos (w + 16) z = omega arith in
     ap (signed_of (w + 16)) e ∙ signed-twos (w + 16) (omega arith) z fit
@@ -125,7 +126,8 @@ code_of_eight (suc (suc (suc (suc (suc (suc (suc zero))))))) h = refl
 code_of_eight (suc (suc (suc (suc (suc (suc (suc (suc n)))))))) h = absurd (omega (arith, h))
 
 -- The code of the value that is read from bits is these bits.
-pub code_back : (coding : Coding) (w n : ℕ) → Takes coding w (value coding w n) → suits coding w ≡ true → n < 2 ^ w → code coding w (value coding w n) ≡ n
+pub code_back : (coding : Coding) (w n : ℕ) → Takes coding w (value coding w n) → suits coding w ≡ true → n < 2 ^ w
+    → code coding w (value coding w n) ≡ n
 code_back c.Absent w n t s fit = let a : n < 2 ^ 0 = known_below n w 0 s fit in omega arith
 code_back c.NoPredicate w n t s fit = let a : n < 2 ^ 0 = known_below n w 0 s fit in omega arith
 code_back c.Gr w n t s fit = refl
@@ -146,7 +148,8 @@ code_back c.Wide w n t s fit = refl
 code_back c.PredicateMask w n t s fit = omega arith
 code_back c.Signed w n t s fit = twos-signed w n (leb-true _ _ (both-left _ _ s)) fit
 code_back c.RotatingMask w n t s fit =
-    let e : twos (w + 16) (signed_of (w + 16) (n * 2 ^ 16)) ≡ n * 2 ^ 16 = twos-signed (w + 16) (n * 2 ^ 16) (omega arith) (shifted_below n w fit) in
+    let e : twos (w + 16) (signed_of (w + 16) (n * 2 ^ 16)) ≡ n * 2 ^ 16 =
+    twos-signed (w + 16) (n * 2 ^ 16) (omega arith) (shifted_below n w fit) in
     ap (λ k. k / 2 ^ 16) e ∙ (omega arith)
 code_back c.Short w n t s fit = twos-signed w n (leb-true _ _ (both-left _ _ s)) fit
 code_back c.Displacement w n t s fit = twos-signed w n (leb-true _ _ (both-left _ _ s)) fit

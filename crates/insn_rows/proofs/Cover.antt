@@ -21,30 +21,42 @@ own [] w = []
 own (f ∷ fs) w = field f.low f.width (bits f.low f.width w) ∷ own fs w
 
 -- The bits that two numbers share, above, in and below a field.
-block : (h x l mh mx ml low width : ℕ) → x < 2 ^ width → mx < 2 ^ width → l < 2 ^ low → ml < 2 ^ low → bit_and ((h * 2 ^ width + x) * 2 ^ low + l) ((mh * 2 ^ width + mx) * 2 ^ low + ml) ≡ (bit_and h mh * 2 ^ width + bit_and x mx) * 2 ^ low + bit_and l ml
+block : (h x l mh mx ml low width : ℕ) → x < 2 ^ width → mx < 2 ^ width → l < 2 ^ low → ml < 2 ^ low
+    → bit_and ((h * 2 ^ width + x) * 2 ^ low + l) ((mh * 2 ^ width + mx) * 2 ^ low + ml)
+    ≡ (bit_and h mh * 2 ^ width + bit_and x mx) * 2 ^ low + bit_and l ml
 block h x l mh mx ml low width fx fmx fl fml =
-    and_block low (h * 2 ^ width + x) (mh * 2 ^ width + mx) l ml fl fml ∙ ap (λ k. k * 2 ^ low + bit_and l ml) (and_block width h mh x mx fx fmx)
+    and_block low (h * 2 ^ width + x) (mh * 2 ^ width + mx) l ml fl fml
+    ∙ ap (λ k. k * 2 ^ low + bit_and l ml) (and_block width h mh x mx fx fmx)
 
 -- A field less in a mask that has it is a field less in what is under the mask.
-less : (n m low width : ℕ) → bits low width m ≡ 2 ^ width - 1 → bit_and n (m - (2 ^ width - 1) * 2 ^ low) + bits low width n * 2 ^ low ≡ bit_and n m
+less : (n m low width : ℕ) → bits low width m ≡ 2 ^ width - 1 → bit_and n (m - (2 ^ width - 1) * 2 ^ low) + bits low width n * 2 ^ low
+    ≡ bit_and n m
 less n m low width ones =
     let x : bits low width n < 2 ^ width = mod_below (n / 2 ^ low) (2 ^ width) (pow_pos width) in
     let some : 0 < 2 ^ width = pow_pos width in
     let l : n % 2 ^ low < 2 ^ low = mod_below n (2 ^ low) (pow_pos low) in
     let ml : m % 2 ^ low < 2 ^ low = mod_below m (2 ^ low) (pow_pos low) in
     let n-whole : n ≡ (n / 2 ^ (low + width) * 2 ^ width + bits low width n) * 2 ^ low + n % 2 ^ low = whole n low width in
-    let m-whole : m ≡ (m / 2 ^ (low + width) * 2 ^ width + (2 ^ width - 1)) * 2 ^ low + m % 2 ^ low = whole m low width ∙ ap (λ k. (m / 2 ^ (low + width) * 2 ^ width + k) * 2 ^ low + m % 2 ^ low) ones in
+    let m-whole : m ≡ (m / 2 ^ (low + width) * 2 ^ width + (2 ^ width - 1)) * 2 ^ low + m % 2 ^ low =
+    whole m low width ∙ ap (λ k. (m / 2 ^ (low + width) * 2 ^ width + k) * 2 ^ low + m % 2 ^ low) ones in
     let left : m - (2 ^ width - 1) * 2 ^ low ≡ (m / 2 ^ (low + width) * 2 ^ width + 0) * 2 ^ low + m % 2 ^ low = omega arith in
     let all : bit_and (bits low width n) (2 ^ width - 1) ≡ bits low width n = and_mask (bits low width n) width ∙ mod-eq_of_lt x in
-    let full : bit_and n m ≡ (bit_and (n / 2 ^ (low + width)) (m / 2 ^ (low + width)) * 2 ^ width + bits low width n) * 2 ^ low + bit_and (n % 2 ^ low) (m % 2 ^ low) =
-    ap (λ k. bit_and k m) n-whole ∙ ap (bit_and _) m-whole ∙ block (n / 2 ^ (low + width)) (bits low width n) (n % 2 ^ low) (m / 2 ^ (low + width)) (2 ^ width - 1) (m % 2 ^ low) low width x (omega arith) l ml
-    ∙ ap (λ k. (bit_and (n / 2 ^ (low + width)) (m / 2 ^ (low + width)) * 2 ^ width + k) * 2 ^ low + bit_and (n % 2 ^ low) (m % 2 ^ low)) all in
-    let rest : bit_and n (m - (2 ^ width - 1) * 2 ^ low) ≡ (bit_and (n / 2 ^ (low + width)) (m / 2 ^ (low + width)) * 2 ^ width + 0) * 2 ^ low + bit_and (n % 2 ^ low) (m % 2 ^ low) =
-    ap (λ k. bit_and k (m - (2 ^ width - 1) * 2 ^ low)) n-whole ∙ ap (bit_and _) left ∙ block (n / 2 ^ (low + width)) (bits low width n) (n % 2 ^ low) (m / 2 ^ (low + width)) 0 (m % 2 ^ low) low width x some l ml
-    ∙ ap (λ k. (bit_and (n / 2 ^ (low + width)) (m / 2 ^ (low + width)) * 2 ^ width + k) * 2 ^ low + bit_and (n % 2 ^ low) (m % 2 ^ low)) (and_zero_r (bits low width n)) in
+    let full : bit_and n m ≡ (bit_and (n / 2 ^ (low + width)) (m / 2 ^ (low + width)) * 2 ^ width + bits low width n) * 2 ^ low + bit_and
+    (n % 2 ^ low) (m % 2 ^ low) =
+    ap (λ k. bit_and k m) n-whole ∙ ap (bit_and _) m-whole ∙ block (n / 2 ^ (low + width)) (bits low width n) (n % 2 ^ low)
+    (m / 2 ^ (low + width)) (2 ^ width - 1) (m % 2 ^ low) low width x (omega arith) l ml
+    ∙ ap (λ k. (bit_and (n / 2 ^ (low + width)) (m / 2 ^ (low + width)) * 2 ^ width + k) * 2 ^ low + bit_and (n % 2 ^ low) (m % 2 ^ low))
+    all in
+    let rest : bit_and n (m - (2 ^ width - 1) * 2 ^ low) ≡ (bit_and (n / 2 ^ (low + width)) (m / 2 ^ (low + width)) * 2 ^ width + 0) * 2
+    ^ low + bit_and (n % 2 ^ low) (m % 2 ^ low) =
+    ap (λ k. bit_and k (m - (2 ^ width - 1) * 2 ^ low)) n-whole ∙ ap (bit_and _) left
+    ∙ block (n / 2 ^ (low + width)) (bits low width n) (n % 2 ^ low) (m / 2 ^ (low + width)) 0 (m % 2 ^ low) low width x some l ml
+    ∙ ap (λ k. (bit_and (n / 2 ^ (low + width)) (m / 2 ^ (low + width)) * 2 ^ width + k) * 2 ^ low + bit_and (n % 2 ^ low) (m % 2 ^ low))
+    (and_zero_r (bits low width n)) in
     omega (arith, full, rest)
 
-pub cover : (fs : List BitField) (w : ℕ) → w < 18446744073709551616 → are_left fs ≡ true → bit_and w (other_bits fs) + word_of (own fs w) ≡ w
+pub cover : (fs : List BitField) (w : ℕ) → w < 18446744073709551616 → are_left fs ≡ true
+    → bit_and w (other_bits fs) + word_of (own fs w) ≡ w
 cover [] w h left = let a : bit_and w (2 ^ 64 - 1) ≡ w % 2 ^ 64 = and_mask w 64 in let b : w % 2 ^ 64 ≡ w = mod-eq_of_lt h in omega arith
 cover (f ∷ fs) w h left =
     let before = cover fs w h (both-right _ _ left) in

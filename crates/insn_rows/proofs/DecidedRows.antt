@@ -80,7 +80,9 @@ agrees (ch.Differ i j) xs = other (at xs i) (at xs j)
 agrees (ch.Frame i j k) xs = frame (at xs i) (at xs j) (at xs k)
 
 has_word : (r : Row) (xs : List Value) → Dec (HasWord r xs)
-has_word r xs = alike (both (all_take (operands r) xs) (agrees r.format.check xs)) (λ h. record { takes = h.0; agrees = h.1 }) (λ h. (h.takes, h.agrees))
+has_word r xs =
+    alike (both (all_take (operands r) xs) (agrees r.format.check xs)) (λ h. record { takes = h.0; agrees = h.1 })
+    (λ h. (h.takes, h.agrees))
 
 -- The row at the index of its opcode has a word for an instruction.
 pub as_row_decided : (rows : List Row) (p : Option ℕ) (i : Insn) → Dec (AsRow rows p i)

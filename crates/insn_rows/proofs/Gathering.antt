@@ -20,7 +20,8 @@ scattered_fields (f ∷ fs) n = ap (λ gs. f ∷ gs) (scattered_fields fs n)
 gathered_mod : (fs : List BitField) (n w : ℕ) → Reads w (scattered fs n) → gathered fs w ≡ n % 2 ^ width_of fs
 gathered_mod [] n w r = omega arith
 gathered_mod (f ∷ fs) n w r =
-    ap (λ h. h * 2 ^ width_of fs + gathered fs w) r.0 ∙ ap (λ l. bits (width_of fs) f.width n * 2 ^ width_of fs + l) (gathered_mod fs n w r.1)
+    ap (λ h. h * 2 ^ width_of fs + gathered fs w) r.0 ∙ ap (λ l. bits (width_of fs) f.width n * 2 ^ width_of fs + l)
+    (gathered_mod fs n w r.1)
     ∙ sym (mod-pow-add n f.width (width_of fs))
 
 pub gathered_back : (fs : List BitField) (n w : ℕ) → n < 2 ^ width_of fs → Reads w (scattered fs n) → gathered fs w ≡ n
@@ -31,6 +32,9 @@ pub gathered_below : (fs : List BitField) (w : ℕ) → gathered fs w < 2 ^ widt
 gathered_below [] w = omega arith
 gathered_below (f ∷ fs) w =
     let below = gathered_below fs w in
-    let a : bits f.low f.width w * 2 ^ width_of fs + gathered fs w < 2 ^ width_of fs * 2 ^ f.width = mul-add-lt (bits f.low f.width w) (2 ^ width_of fs) (gathered fs w) (2 ^ f.width) (mod_below (w / 2 ^ f.low) (2 ^ f.width) (pow_pos f.width)) below in
-    let b : 2 ^ (f.width + width_of fs) ≡ 2 ^ width_of fs * 2 ^ f.width = pow-add 2 f.width (width_of fs) ∙ mul_comm (2 ^ f.width) (2 ^ width_of fs) in
+    let a : bits f.low f.width w * 2 ^ width_of fs + gathered fs w < 2 ^ width_of fs * 2 ^ f.width =
+    mul-add-lt (bits f.low f.width w) (2 ^ width_of fs) (gathered fs w) (2 ^ f.width)
+    (mod_below (w / 2 ^ f.low) (2 ^ f.width) (pow_pos f.width)) below in
+    let b : 2 ^ (f.width + width_of fs) ≡ 2 ^ width_of fs * 2 ^ f.width =
+    pow-add 2 f.width (width_of fs) ∙ mul_comm (2 ^ f.width) (2 ^ width_of fs) in
     rw b a

@@ -21,27 +21,34 @@ use Rattle.insn_rows.proofs.RowWords.{well_made, all_get}
 use Rattle.insn_rows.proofs.RowBack.{no_row, table_made, at_row_index, no_row_index, row_of}
 
 -- An instruction has at most one word.
-word_at : (rows : List Row) (p : Option ℕ) (i : Insn) (v w : ℕ) → IsRowIndexOf rows p (opcode_of i.op) → HasRow rows i v → HasRow rows i w → v ≡ w
+word_at : (rows : List Row) (p : Option ℕ) (i : Insn) (v w : ℕ) → IsRowIndexOf rows p (opcode_of i.op) → HasRow rows i v → HasRow rows i w
+    → v ≡ w
 word_at rows None i v w here of-v of-w = absurd (no_row_index rows i v no_row here of-v)
-word_at rows (Some n) i v w here of-v of-w = (at_row_index rows i v n no_row here of-v).sum ∙ sym (at_row_index rows i w n no_row here of-w).sum
+word_at rows (Some n) i v w here of-v of-w =
+    (at_row_index rows i v n no_row here of-v).sum ∙ sym (at_row_index rows i w n no_row here of-w).sum
 
-pub only_word : (rows : List Row) (p : Option ℕ) (i : Insn) (v w : ℕ) → IsRowIndexOf rows p (opcode_of i.op) → HasRow rows i v → HasRow rows i w → v ≡ w
+pub only_word : (rows : List Row) (p : Option ℕ) (i : Insn) (v w : ℕ) → IsRowIndexOf rows p (opcode_of i.op) → HasRow rows i v
+    → HasRow rows i w → v ≡ w
 only_word rows p i v w here of-v of-w = word_at rows p i v w here of-v of-w
 
 -- Its word is at least a number that the fixed bits of each row come to.
 pub word_above : (rows : List Row) (least : ℕ) (i : Insn) (w : ℕ) → list_all (reaches least) rows ≡ true → HasRow rows i w → least ≤ w
 word_above rows least i w h code =
-    let a : least ≤ (get_or rows code.row_index no_row).fixed = leb-true _ _ (all_get (reaches least) rows code.row_index no_row code.inside h) in
+    let a : least ≤ (get_or rows code.row_index no_row).fixed =
+    leb-true _ _ (all_get (reaches least) rows code.row_index no_row code.inside h) in
     omega (arith, a, (code.row no_row).sum)
 
 -- And it has only the bits below the highest that a row has.
-sum_below : (k b : ℕ) (ps : List Part) → b < 2 ^ k → AllFit ps → are_apart_fields (map field_of ps) ≡ true → list_all (is_clear b) (map field_of ps) ≡ true → list_all (is_below k) (map field_of ps) ≡ true → b + word_of ps < 2 ^ k
+sum_below : (k b : ℕ) (ps : List Part) → b < 2 ^ k → AllFit ps → are_apart_fields (map field_of ps) ≡ true
+    → list_all (is_clear b) (map field_of ps) ≡ true → list_all (is_below k) (map field_of ps) ≡ true → b + word_of ps < 2 ^ k
 sum_below k b [] h fit s cl below = omega arith
 sum_below k b (p ∷ ps) h fit s cl below =
     let P : ℕ → Type 0 = λ n. n < 2 ^ k in
-    subst P (sym (put b p ps fit.1 s cl)) (with-fits (b + word_of ps) p.low p.width p.value k (leb-true _ _ (both-left _ _ below)) (sum_below k b ps h fit.1 (both-right _ _ s) (both-right _ _ cl) (both-right _ _ below)) fit.0)
+    subst P (sym (put b p ps fit.1 s cl)) (with-fits (b + word_of ps) p.low p.width p.value k (leb-true _ _ (both-left _ _ below))
+    (sum_below k b ps h fit.1 (both-right _ _ s) (both-right _ _ cl) (both-right _ _ below)) fit.0)
 
-pub word_under : (rows : List Row) (k : ℕ) (i : Insn) (w : ℕ) → is_table rows ≡ true → list_all (stays_below k) rows ≡ true → HasRow rows i w → w < 2 ^ k
+pub word_under : (rows : List Row) (k : ℕ) (i : Insn) (w : ℕ) → is_table rows ≡ true → list_all (stays_below k) rows ≡ true
+    → HasRow rows i w → w < 2 ^ k
 unfolding is_table
 word_under rows k i w h below code =
     let r : Row = get_or rows code.row_index no_row in
@@ -51,7 +58,9 @@ word_under rows k i w h below code =
     let A : List BitField → Type 0 = λ fs. are_apart_fields fs ≡ true in
     let C : List BitField → Type 0 = λ fs. list_all (is_clear r.fixed) fs ≡ true in
     let B : List BitField → Type 0 = λ fs. list_all (is_below k) fs ≡ true in
-    let a : r.fixed + word_of (parts (operands r) (values_of i)) < 2 ^ k = sum_below k r.fixed (parts (operands r) (values_of i)) (ltb-true _ _ (both-left _ _ b)) (parts_fit (operands r) (values_of i)) (subst A same m.apart) (subst C same m.clear) (subst B same (both-right _ _ b)) in
+    let a : r.fixed + word_of (parts (operands r) (values_of i)) < 2 ^ k =
+    sum_below k r.fixed (parts (operands r) (values_of i)) (ltb-true _ _ (both-left _ _ b)) (parts_fit (operands r) (values_of i))
+    (subst A same m.apart) (subst C same m.clear) (subst B same (both-right _ _ b)) in
     omega (arith, a, (code.row no_row).sum)
 
 -- What the row at the index of its opcode says of an instruction: it has a word for its values.
@@ -71,13 +80,16 @@ from_row rows (Some n) i here h = (
 )
 
 -- The row at the index of its opcode lists an instruction exactly where it has a word for its values.
-pub listed_there : (rows : List Row) (n : ℕ) (d : Row) (i : Insn) → IsRowIndexOf rows (Some n) (opcode_of i.op) → HasWord (get_or rows n d) (values_of i) ↔ IsListedBy rows i
+pub listed_there : (rows : List Row) (n : ℕ) (d : Row) (i : Insn) → IsRowIndexOf rows (Some n) (opcode_of i.op)
+    → HasWord (get_or rows n d) (values_of i) ↔ IsListedBy rows i
 listed_there rows n d i here = (
   λ h. (row_word (get_or rows n d) (values_of i), row_of rows i _ n d here.0 (record { opcode = here.1 d; listed = h; sum = refl })),
   λ l. (at_row_index rows i l.0 n d here l.1).listed,
 )
 
-pub listed_values : (rows : List Row) (n : ℕ) (d : Row) (i : Insn) (xs : List Value) (b : Bool) → IsRowIndexOf rows (Some n) (opcode_of i.op) → xs ≡ values_of i → IsTrue b ↔ HasWord (get_or rows n d) xs → IsTrue b ↔ IsListedBy rows i
+pub listed_values : (rows : List Row) (n : ℕ) (d : Row) (i : Insn) (xs : List Value) (b : Bool)
+    → IsRowIndexOf rows (Some n) (opcode_of i.op) → xs ≡ values_of i → IsTrue b ↔ HasWord (get_or rows n d) xs → IsTrue b
+    ↔ IsListedBy rows i
 listed_values rows n d i xs b here same has =
     let P : List Value → Type 0 = λ xs. IsTrue b ↔ HasWord (get_or rows n d) xs in
     let of-values = subst P same has in

@@ -25,15 +25,18 @@ low_bits n w h = ap (bit_and n) (ones w h) ∙ and_mask n w
 pub below : (n low w : ℕ) → bits low w n < 2 ^ w
 below n low w = mod_below (n / 2 ^ low) (2 ^ w) (pow_pos w)
 
-pub set : (n low w : ℕ) → low + w ≤ 41 → bit_and n (1 * 2 ^ w % 18446744073709551616 - 1) * 2 ^ low % 18446744073709551616 ≡ n % 2 ^ w * 2 ^ low
+pub set : (n low w : ℕ) → low + w ≤ 41 → bit_and n (1 * 2 ^ w % 18446744073709551616 - 1) * 2 ^ low % 18446744073709551616
+    ≡ n % 2 ^ w * 2 ^ low
 set n low w h =
     let fits : w + low ≤ 64 = omega arith in
-    ap (λ k. k * 2 ^ low % 18446744073709551616) (low_bits n w (omega arith)) ∙ shl_whole (n % 2 ^ w) w low 64 (mod_below n (2 ^ w) (pow_pos w)) fits
+    ap (λ k. k * 2 ^ low % 18446744073709551616) (low_bits n w (omega arith))
+    ∙ shl_whole (n % 2 ^ w) w low 64 (mod_below n (2 ^ w) (pow_pos w)) fits
 
 -- A field lies in its word.
 pub field_below : (n low w : ℕ) → low + w ≤ 41 → n % 2 ^ w * 2 ^ low < 2 ^ 41
 field_below n low w h =
-    let a : n % 2 ^ w * 2 ^ low + 0 < 2 ^ low * 2 ^ w = mul-add-lt (n % 2 ^ w) (2 ^ low) 0 (2 ^ w) (mod_below n (2 ^ w) (pow_pos w)) (pow_pos low) in
+    let a : n % 2 ^ w * 2 ^ low + 0 < 2 ^ low * 2 ^ w =
+    mul-add-lt (n % 2 ^ w) (2 ^ low) 0 (2 ^ w) (mod_below n (2 ^ w) (pow_pos w)) (pow_pos low) in
     let b : 2 ^ low * 2 ^ w ≡ 2 ^ (low + w) = sym (pow-add 2 low w) in
     let c : 2 ^ (low + w) ≤ 2 ^ 41 = pow-le-pow_right (lit< tt) h in
     omega arith
@@ -46,7 +49,9 @@ pub joined : (h l w hw : ℕ) → hw + w ≤ 41 → h < 2 ^ hw → h * 2 ^ w % 1
 joined h l w hw room fit = let fits : hw + w ≤ 64 = omega arith in ap (λ k. k + l) (shl_whole h hw w 64 fit fits)
 
 pub joined_below : (h l w hw : ℕ) → h < 2 ^ hw → l < 2 ^ w → h * 2 ^ w + l < 2 ^ (hw + w)
-joined_below h l w hw fit low = let a : h * 2 ^ w + l < 2 ^ w * 2 ^ hw = mul-add-lt h (2 ^ w) l (2 ^ hw) fit low in let b : 2 ^ (hw + w) ≡ 2 ^ w * 2 ^ hw = pow-add 2 hw w ∙ mul_comm (2 ^ hw) (2 ^ w) in rw b a
+joined_below h l w hw fit low =
+    let a : h * 2 ^ w + l < 2 ^ w * 2 ^ hw = mul-add-lt h (2 ^ w) l (2 ^ hw) fit low in let b : 2 ^ (hw + w) ≡ 2 ^ w * 2 ^ hw =
+    pow-add 2 hw w ∙ mul_comm (2 ^ hw) (2 ^ w) in rw b a
 
 pub small : (n w : ℕ) → w ≤ 41 → n < 2 ^ w → n < 2 ^ 41
 small n w h fit = let e : 2 ^ w ≤ 2 ^ 41 = pow-le-pow_right (lit< tt) h in omega arith
@@ -71,13 +76,16 @@ put_below fs n h =
 pub put_one : (a : BitField) (n : ℕ) → n % 2 ^ a.width * 2 ^ a.low ≡ word_of (scattered (a ∷ []) n)
 put_one a n = let one : n / 1 ≡ n = omega arith in rw (add-zero, one) refl
 
-pub put_two : (a b : BitField) (n : ℕ) → n / 2 ^ b.width % 2 ^ a.width * 2 ^ a.low + n % 2 ^ b.width * 2 ^ b.low ≡ word_of (scattered (a ∷ b ∷ []) n)
+pub put_two : (a b : BitField) (n : ℕ) → n / 2 ^ b.width % 2 ^ a.width * 2 ^ a.low + n % 2 ^ b.width * 2 ^ b.low
+    ≡ word_of (scattered (a ∷ b ∷ []) n)
 put_two a b n = let one : n / 1 ≡ n = omega arith in rw (add-zero, add-zero, one) refl
 
-pub put_three : (a b c : BitField) (n : ℕ) → n / 2 ^ (b.width + c.width) % 2 ^ a.width * 2 ^ a.low + (n / 2 ^ c.width % 2 ^ b.width * 2 ^ b.low + n % 2 ^ c.width * 2 ^ c.low) ≡ word_of (scattered (a ∷ b ∷ c ∷ []) n)
+pub put_three : (a b c : BitField) (n : ℕ) → n / 2 ^ (b.width + c.width) % 2 ^ a.width * 2 ^ a.low
+    + (n / 2 ^ c.width % 2 ^ b.width * 2 ^ b.low + n % 2 ^ c.width * 2 ^ c.low) ≡ word_of (scattered (a ∷ b ∷ c ∷ []) n)
 put_three a b c n = let one : n / 1 ≡ n = omega arith in rw (add-zero, add-zero, one) refl
 
-pub put_four : (a b c d : BitField) (n : ℕ) → n / 2 ^ (b.width + (c.width + d.width)) % 2 ^ a.width * 2 ^ a.low + (n / 2 ^ (c.width + d.width) % 2 ^ b.width * 2 ^ b.low + (n / 2 ^ d.width % 2 ^ c.width * 2 ^ c.low + n % 2 ^ d.width * 2 ^ d.low))
+pub put_four : (a b c d : BitField) (n : ℕ) → n / 2 ^ (b.width + (c.width + d.width)) % 2 ^ a.width * 2 ^ a.low
+    + (n / 2 ^ (c.width + d.width) % 2 ^ b.width * 2 ^ b.low + (n / 2 ^ d.width % 2 ^ c.width * 2 ^ c.low + n % 2 ^ d.width * 2 ^ d.low))
     ≡ word_of (scattered (a ∷ b ∷ c ∷ d ∷ []) n)
 put_four a b c d n = let one : n / 1 ≡ n = omega arith in rw (add-zero, add-zero, one) refl
 
@@ -87,10 +95,13 @@ get_one a w = omega arith
 pub get_two : (a b : BitField) (w : ℕ) → bits a.low a.width w * 2 ^ b.width + bits b.low b.width w ≡ gathered (a ∷ b ∷ []) w
 get_two a b w = rw (add-zero) (omega arith)
 
-pub get_three : (a b c : BitField) (w : ℕ) → bits a.low a.width w * 2 ^ (b.width + c.width) + (bits b.low b.width w * 2 ^ c.width + bits c.low c.width w) ≡ gathered (a ∷ b ∷ c ∷ []) w
+pub get_three : (a b c : BitField) (w : ℕ) → bits a.low a.width
+    w * 2 ^ (b.width + c.width) + (bits b.low b.width w * 2 ^ c.width + bits c.low c.width w) ≡ gathered (a ∷ b ∷ c ∷ []) w
 get_three a b c w = rw (add-zero) (omega arith)
 
-pub get_four : (a b c d : BitField) (w : ℕ) → bits a.low a.width w * 2 ^ (b.width + (c.width + d.width)) + (bits b.low b.width w * 2 ^ (c.width + d.width) + (bits c.low c.width w * 2 ^ d.width + bits d.low d.width w))
+pub get_four : (a b c d : BitField) (w : ℕ) → bits a.low a.width
+    w * 2 ^ (b.width + (c.width + d.width)) + (bits b.low b.width
+    w * 2 ^ (c.width + d.width) + (bits c.low c.width w * 2 ^ d.width + bits d.low d.width w))
     ≡ gathered (a ∷ b ∷ c ∷ d ∷ []) w
 get_four a b c d w = rw (add-zero) (omega arith)
 

@@ -75,10 +75,11 @@ raised_in_64 n w s fit =
 
 -- A signed number by its two's complement.
 pub signed_fits : (w n : ℕ) → 1 ≤ w → n < 2 ^ w → FitsSigned w (signed_of w n)
-signed_fits w n s h = elim (ltb n (2 ^ (w - 1))) as (λ b. ltb n (2 ^ (w - 1)) ≡ b → FitsSigned w (cond b (pos n) (negsuc (2 ^ w - suc n)))) [
-  | true ↦ λ e. ltb-true _ _ e
-  | false ↦ λ e. let d = half w s in let f : 2 ^ (w - 1) ≤ n = ltb-false _ _ e in omega arith
-] refl
+signed_fits w n s h =
+    elim (ltb n (2 ^ (w - 1))) as (λ b. ltb n (2 ^ (w - 1)) ≡ b → FitsSigned w (cond b (pos n) (negsuc (2 ^ w - suc n)))) [
+      | true ↦ λ e. ltb-true _ _ e
+      | false ↦ λ e. let d = half w s in let f : 2 ^ (w - 1) ≤ n = ltb-false _ _ e in omega arith
+    ] refl
 
 -- A number has also as many bits as are enough for all of fewer.
 pub wider : (w k : ℕ) (z : ℤ) → w ≤ k → FitsSigned w z → FitsSigned k z
@@ -94,7 +95,8 @@ twos-signed w n s h = elim (ltb n (2 ^ (w - 1))) as (λ b. twos w (cond b (pos n
 -- Of which the low 16 bits are zeros.
 pub raised_zeros : (w n : ℕ) → n < 2 ^ w → twos (w + 16) (signed_of (w + 16) (n * 2 ^ 16)) % 2 ^ 16 ≡ 0
 raised_zeros w n h =
-    let a : twos (w + 16) (signed_of (w + 16) (n * 2 ^ 16)) ≡ n * 2 ^ 16 = twos-signed (w + 16) (n * 2 ^ 16) (omega arith) (shifted_below n w h) in
+    let a : twos (w + 16) (signed_of (w + 16) (n * 2 ^ 16)) ≡ n * 2 ^ 16 =
+    twos-signed (w + 16) (n * 2 ^ 16) (omega arith) (shifted_below n w h) in
     omega arith
 
 pub raised_fits : (w n : ℕ) → n < 2 ^ w → FitsSigned (w + 16) (signed_of (w + 16) (n * 2 ^ 16))

@@ -21,12 +21,14 @@ use Rattle.insn_rows.proofs.Back.{arms, opcode_back, values_of_insn}
 use Rattle.insn_rows.proofs.RowWords.{well_made, word_below, word_matches, read_word, word_of_read, all_get, one_match}
 
 -- The instruction that is read has the values that are read.
-values_read : (r : Row) (w : ℕ) → is_well_made r ≡ true → HasWord r (read (operands r) w) → values_of (insn_of r.opcode (at (read (operands r) w))) ≡ read (operands r) w
+values_read : (r : Row) (w : ℕ) → is_well_made r ≡ true → HasWord r (read (operands r) w)
+    → values_of (insn_of r.opcode (at (read (operands r) w))) ≡ read (operands r) w
 unfolding listed
 values_read r w h has = values_of_insn r.opcode (operands r) _ _ _ _ _ _ _ (well_made r h).kind has.takes
 
 -- The instruction that is read has the word.
-pub read_found : (r : Row) (w : ℕ) → w < 18446744073709551616 → is_well_made r ≡ true → matches r w ≡ true → HasWord r (read (operands r) w) → IsOfRow r (insn_of r.opcode (at (read (operands r) w))) w
+pub read_found : (r : Row) (w : ℕ) → w < 18446744073709551616 → is_well_made r ≡ true → matches r w ≡ true → HasWord r (read (operands r) w)
+    → IsOfRow r (insn_of r.opcode (at (read (operands r) w))) w
 read_found r w fits h bits has =
     let v = sym (values_read r w h has) in
     let P : List Value → Type 0 = λ xs. HasWord r xs in
@@ -59,7 +61,24 @@ abbrev absent : Operand
 absent = record { coding = c.Absent; bits = b.None }
 
 abbrev pub no_row : Row
-no_row = record { opcode = o.Mf; format = record { operands = record { first = absent; second = absent; third = absent; fourth = absent; fifth = absent; sixth = absent; seventh = absent }; check = ch.Free; mask = 0 }; fixed = 0 }
+no_row =
+    record {
+      opcode = o.Mf;
+      format = record {
+        operands = record {
+          first = absent;
+          second = absent;
+          third = absent;
+          fourth = absent;
+          fifth = absent;
+          sixth = absent;
+          seventh = absent;
+        };
+        check = ch.Free;
+        mask = 0;
+      };
+      fixed = 0;
+    }
 
 pub table_made : (rows : List Row) (n : ℕ) (d : Row) → is_table rows ≡ true → n < length rows → is_well_made (get_or rows n d) ≡ true
 unfolding is_table
@@ -70,18 +89,23 @@ unfolding is_table
 table_other rows h = both-right _ _ h
 
 pub row_matches : (r : Row) (i : Insn) (w : ℕ) → is_well_made r ≡ true → IsOfRow r i w → matches r w ≡ true
-row_matches r i w h code = let P : ℕ → Type 0 = λ n. matches r n ≡ true in subst P (sym code.sum) (word_matches r (values_of i) h code.listed)
+row_matches r i w h code =
+    let P : ℕ → Type 0 = λ n. matches r n ≡ true in subst P (sym code.sum) (word_matches r (values_of i) h code.listed)
 
 pub code_below : (rows : List Row) (i : Insn) (w : ℕ) (d : Row) → is_table rows ≡ true → HasRow rows i w → w < 2 ^ 41
 code_below rows i w d h code =
     let P : ℕ → Type 0 = λ n. n < 2 ^ 41 in
-    subst P (sym (code.row d).sum) (word_below (get_or rows code.row_index d) (values_of i) (table_made rows code.row_index d h code.inside) (code.row d).listed)
+    subst P (sym (code.row d).sum) (word_below (get_or rows code.row_index d) (values_of i) (table_made rows code.row_index d h code.inside)
+    (code.row d).listed)
 
 -- The row whose bits a word has is the row of its instruction.
-pub row_found : (rows : List Row) (i : Insn) (w n : ℕ) (d : Row) → is_table rows ≡ true → HasRow rows i w → n < length rows → matches (get_or rows n d) w ≡ true → IsOfRow (get_or rows n d) i w
+pub row_found : (rows : List Row) (i : Insn) (w n : ℕ) (d : Row) → is_table rows ≡ true → HasRow rows i w → n < length rows
+    → matches (get_or rows n d) w ≡ true → IsOfRow (get_or rows n d) i w
 row_found rows i w n d h code l m =
     let made = table_made rows code.row_index d h code.inside in
-    let same : code.row_index ≡ n = one_match rows code.row_index n d d w code.inside l (table_other rows h) (row_matches (get_or rows code.row_index d) i w made (code.row d)) m in
+    let same : code.row_index ≡ n =
+    one_match rows code.row_index n d d w code.inside l (table_other rows h)
+    (row_matches (get_or rows code.row_index d) i w made (code.row d)) m in
     let P : ℕ → Type 0 = λ k. IsOfRow (get_or rows k d) i w in
     subst P same (code.row d)
 
@@ -101,7 +125,8 @@ row_of rows i w n d l code =
     }
 
 -- The row of an instruction is the one at the index of its opcode.
-pub at_row_index : (rows : List Row) (i : Insn) (w n : ℕ) (d : Row) → IsRowIndexOf rows (Some n) (opcode_of i.op) → HasRow rows i w → IsOfRow (get_or rows n d) i w
+pub at_row_index : (rows : List Row) (i : Insn) (w n : ℕ) (d : Row) → IsRowIndexOf rows (Some n) (opcode_of i.op) → HasRow rows i w
+    → IsOfRow (get_or rows n d) i w
 at_row_index rows i w n d here code =
     let same : code.row_index ≡ n = here.2 code.row_index d code.inside (code.row d).opcode in
     let P : ℕ → Type 0 = λ k. IsOfRow (get_or rows k d) i w in
@@ -114,7 +139,8 @@ pub has_row_index : (rows : List Row) (p : Option ℕ) (i : Insn) (w : ℕ) → 
 has_row_index rows None i w none code = absurd (no_row_index rows i w no_row none code)
 has_row_index rows (Some n) i w here code = refl
 
-pub has_values : (rows : List Row) (i : Insn) (w n : ℕ) (d : Row) (xs : List Value) → IsRowIndexOf rows (Some n) (opcode_of i.op) → HasRow rows i w → xs ≡ values_of i → HasWord (get_or rows n d) xs
+pub has_values : (rows : List Row) (i : Insn) (w n : ℕ) (d : Row) (xs : List Value) → IsRowIndexOf rows (Some n) (opcode_of i.op)
+    → HasRow rows i w → xs ≡ values_of i → HasWord (get_or rows n d) xs
 has_values rows i w n d xs here code same =
     let P : List Value → Type 0 = λ xs. HasWord (get_or rows n d) xs in
     subst P (sym same) (at_row_index rows i w n d here code).listed

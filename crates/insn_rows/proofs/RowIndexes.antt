@@ -26,13 +26,15 @@ is-at : (p : Option ℕ) (n : ℕ) → is_at p n ≡ true → p ≡ Some n
 is-at None n h = absurd (cc)
 is-at (Some m) n h = ap Some (eqb-true m n h)
 
-stands_at : (row_index : Opcode → Option ℕ) (rows : List Row) (k m : ℕ) (d : Row) → stand_from row_index k rows ≡ true → m < length rows → row_index (get_or rows m d).opcode ≡ Some (m + k)
+stands_at : (row_index : Opcode → Option ℕ) (rows : List Row) (k m : ℕ) (d : Row) → stand_from row_index k rows ≡ true → m < length rows
+    → row_index (get_or rows m d).opcode ≡ Some (m + k)
 stands_at row_index [] k m d h l = absurd (omega (arith, l))
 stands_at row_index (r ∷ rs) k zero d h l = is-at (row_index r.opcode) k (both-left _ _ h) ∙ ap Some (let e : k ≡ 0 + k = omega arith in e)
 stands_at row_index (r ∷ rs) k (suc m) d h l =
     stands_at row_index rs (suc k) m d (both-right _ _ h) (omega (arith, l)) ∙ ap Some (let e : m + suc k ≡ suc m + k = omega arith in e)
 
-of_row_index : (rows : List Row) (row_index : Opcode → Option ℕ) (c : Opcode) (p : Option ℕ) → row_index c ≡ p → stand_from row_index 0 rows ≡ true → Stands rows p c → IsRowIndexOf rows p c
+of_row_index : (rows : List Row) (row_index : Opcode → Option ℕ) (c : Opcode) (p : Option ℕ) → row_index c ≡ p
+    → stand_from row_index 0 rows ≡ true → Stands rows p c → IsRowIndexOf rows p c
 of_row_index rows row_index c None e h s = λ m d l is.
     let a : row_index c ≡ Some (m + 0) = ap row_index (sym is) ∙ stands_at row_index rows 0 m d h l in
     absurd (cc)
@@ -46,5 +48,6 @@ of_row_index rows row_index c (Some n) e h s = (
       omega (arith, f),
 )
 
-pub is_row_index : (rows : List Row) (row_index : Opcode → Option ℕ) → stand_from row_index 0 rows ≡ true → ((c : Opcode) → Stands rows (row_index c) c) → (c : Opcode) → IsRowIndexOf rows (row_index c) c
+pub is_row_index : (rows : List Row) (row_index : Opcode → Option ℕ) → stand_from row_index 0 rows ≡ true
+    → ((c : Opcode) → Stands rows (row_index c) c) → (c : Opcode) → IsRowIndexOf rows (row_index c) c
 is_row_index rows row_index h s c = of_row_index rows row_index c (row_index c) refl h (s c)

@@ -62,7 +62,8 @@ first_apart : (fs gs : List BitField) → are_apart_fields (fs ++ gs) ≡ true �
 first_apart [] gs h = refl
 first_apart (f ∷ fs) gs h =
     let h1 = both-left _ _ h in
-    and_from _ _ (and_from _ _ (both-left _ _ h1) (all_append (are_apart f) fs gs (both-right _ _ h1))) (first_apart fs gs (both-right _ _ h))
+    and_from _ _ (and_from _ _ (both-left _ _ h1) (all_append (are_apart f) fs gs (both-right _ _ h1)))
+    (first_apart fs gs (both-right _ _ h))
 
 others_apart : (fs gs : List BitField) → are_apart_fields (fs ++ gs) ≡ true → are_apart_fields gs ≡ true
 others_apart [] gs h = h
@@ -88,14 +89,18 @@ pub word_below : (r : Row) (xs : List Value) → is_well_made r ≡ true → Has
 word_below r xs h listed =
     let m = well_made r h in
     let t = listed.takes in
-    spread-below r.fixed (parts (operands r) xs) m.below (parts_fit (operands r) xs) (placed (λ fs. are_apart_fields fs ≡ true) (operands r) xs t m.apart) (placed (λ fs. list_all (is_clear r.fixed) fs ≡ true) (operands r) xs t m.clear)
+    spread-below r.fixed (parts (operands r) xs) m.below (parts_fit (operands r) xs)
+    (placed (λ fs. are_apart_fields fs ≡ true) (operands r) xs t m.apart)
+    (placed (λ fs. list_all (is_clear r.fixed) fs ≡ true) (operands r) xs t m.clear)
 
 -- A word of a row has the code of each value in its operand's fields.
 word_reads : (r : Row) (xs : List Value) → is_well_made r ≡ true → HasWord r xs → Reads (row_word r xs) (parts (operands r) xs)
 word_reads r xs h listed =
     let m = well_made r h in
     let t = listed.takes in
-    reads_spread r.fixed (parts (operands r) xs) (parts_fit (operands r) xs) (placed (λ fs. are_apart_fields fs ≡ true) (operands r) xs t m.apart) (placed (λ fs. list_all (is_clear r.fixed) fs ≡ true) (operands r) xs t m.clear)
+    reads_spread r.fixed (parts (operands r) xs) (parts_fit (operands r) xs)
+    (placed (λ fs. are_apart_fields fs ≡ true) (operands r) xs t m.apart)
+    (placed (λ fs. list_all (is_clear r.fixed) fs ≡ true) (operands r) xs t m.clear)
 
 -- A word of a row has the bits of the row outside the operands' fields.
 pub word_matches : (r : Row) (xs : List Value) → is_well_made r ≡ true → HasWord r xs → matches r (row_word r xs) ≡ true
@@ -103,7 +108,8 @@ word_matches r xs h listed =
     let m = well_made r h in
     let below = word_below r xs h listed in
     let own-parts : own (fields (operands r)) (row_word r xs) ≡ parts (operands r) xs =
-    ap (λ fs. own fs (row_word r xs)) (sym (parts_fields (operands r) xs listed.takes)) ∙ own_reads (parts (operands r) xs) (row_word r xs) (word_reads r xs h listed) in
+    ap (λ fs. own fs (row_word r xs)) (sym (parts_fields (operands r) xs listed.takes))
+    ∙ own_reads (parts (operands r) xs) (row_word r xs) (word_reads r xs h listed) in
     let c = cover (fields (operands r)) (row_word r xs) (omega (arith, below)) m.left in
     let sum : word_of (own (fields (operands r)) (row_word r xs)) ≡ word_of (parts (operands r) xs) = ap word_of own-parts in
     let e : bit_and (row_word r xs) (other_bits (fields (operands r))) ≡ r.fixed = omega (arith, c, sum) in
@@ -117,7 +123,8 @@ read_parts (o ∷ os) (x ∷ xs) w t m r =
     let sized = both-right _ _ m.0 in
     let s = reads_split w (part o x) (parts os xs) r in
     let head : value o.coding width (gathered (list_of o.bits) w) ≡ x =
-    ap (value o.coding width) (gathered_back (list_of o.bits) (code o.coding width x) w (code_fits o.coding width x t.0 sized) s.0) ∙ value_back o.coding width x t.0 sized in
+    ap (value o.coding width) (gathered_back (list_of o.bits) (code o.coding width x) w (code_fits o.coding width x t.0 sized) s.0)
+    ∙ value_back o.coding width x t.0 sized in
     λ i. head i ∷ read_parts os xs w t.1 m.2 s.1 i
 read_parts [] (x ∷ xs) w t m r = absurd t
 read_parts (o ∷ os) [] w t m r = absurd t
@@ -131,23 +138,28 @@ parts_read [] w m t = refl
 parts_read (o ∷ os) w m t =
     let fs = list_of o.bits in
     let width = operand_width o in
-    let code-same : code o.coding width (value o.coding width (gathered fs w)) ≡ gathered fs w = code_back o.coding width (gathered fs w) t.0 (both-right _ _ m.0) (gathered_below fs w) in
-    let here : scattered fs (code o.coding width (value o.coding width (gathered fs w))) ≡ own fs w = ap (scattered fs) code-same ∙ scattered_gathered fs w in
+    let code-same : code o.coding width (value o.coding width (gathered fs w)) ≡ gathered fs w =
+    code_back o.coding width (gathered fs w) t.0 (both-right _ _ m.0) (gathered_below fs w) in
+    let here : scattered fs (code o.coding width (value o.coding width (gathered fs w))) ≡ own fs w =
+    ap (scattered fs) code-same ∙ scattered_gathered fs w in
     ap (λ ps. ps ++ parts os (read os w)) here ∙ ap (λ ps. own fs w ++ ps) (parts_read os w m.2 t.1) ∙ sym (own_append fs (fields os) w)
 
-pub word_of_read : (r : Row) (w : ℕ) → w < 18446744073709551616 → is_well_made r ≡ true → matches r w ≡ true → HasWord r (read (operands r) w) → w ≡ row_word r (read (operands r) w)
+pub word_of_read : (r : Row) (w : ℕ) → w < 18446744073709551616 → is_well_made r ≡ true → matches r w ≡ true
+    → HasWord r (read (operands r) w) → w ≡ row_word r (read (operands r) w)
 word_of_read r w fits h bits listed =
     let m = well_made r h in
     let c = cover (fields (operands r)) w fits m.left in
     let fixed : bit_and w (other_bits (fields (operands r))) ≡ r.fixed = ap (bit_and w) (sym m.mask) ∙ eqb-true _ _ bits in
-    let sum : word_of (parts (operands r) (read (operands r) w)) ≡ word_of (own (fields (operands r)) w) = ap word_of (parts_read (operands r) w (are_made r h) listed.takes) in
+    let sum : word_of (parts (operands r) (read (operands r) w)) ≡ word_of (own (fields (operands r)) w) =
+    ap word_of (parts_read (operands r) w (are_made r h) listed.takes) in
     omega (arith, c, fixed, sum)
 
 -- No number has the bits of two rows that are other.
 meet : (r s : Row) (w : ℕ) → matches r w ≡ true → matches s w ≡ true → are_other_rows r s ≡ true → ⊥
 meet r s w a b h =
     let e : bit_and r.fixed s.format.mask ≡ bit_and s.fixed r.format.mask =
-    ap (λ n. bit_and n s.format.mask) (sym (eqb-true _ _ a)) ∙ and_assoc s.format.mask w r.format.mask ∙ ap (bit_and w) (and_comm r.format.mask s.format.mask) ∙ sym (and_assoc r.format.mask w s.format.mask)
+    ap (λ n. bit_and n s.format.mask) (sym (eqb-true _ _ a)) ∙ and_assoc s.format.mask w r.format.mask
+    ∙ ap (bit_and w) (and_comm r.format.mask s.format.mask) ∙ sym (and_assoc r.format.mask w s.format.mask)
     ∙ ap (λ n. bit_and n r.format.mask) (eqb-true _ _ b) in
     eqb-false _ _ (not-true _ h) e
 
@@ -156,9 +168,13 @@ all_get p [] n d l h = absurd (omega (arith, l))
 all_get p (x ∷ xs) zero d l h = both-left _ _ h
 all_get p (x ∷ xs) (suc n) d l h = all_get p xs n d (omega (arith, l)) (both-right _ _ h)
 
-pub one_match : (rows : List Row) (m n : ℕ) (c d : Row) (w : ℕ) → m < length rows → n < length rows → are_all_other rows ≡ true → matches (get_or rows m c) w ≡ true → matches (get_or rows n d) w ≡ true → m ≡ n
+pub one_match : (rows : List Row) (m n : ℕ) (c d : Row) (w : ℕ) → m < length rows → n < length rows → are_all_other rows ≡ true
+    → matches (get_or rows m c) w ≡ true → matches (get_or rows n d) w ≡ true → m ≡ n
 one_match [] m n c d w lm ln h a b = absurd (omega (arith, lm))
 one_match (r ∷ rs) zero zero c d w lm ln h a b = refl
-one_match (r ∷ rs) zero (suc n) c d w lm ln h a b = absurd (meet r (get_or rs n d) w a b (all_get (are_other_rows r) rs n d (omega (arith, ln)) (both-left _ _ h)))
-one_match (r ∷ rs) (suc m) zero c d w lm ln h a b = absurd (meet r (get_or rs m c) w b a (all_get (are_other_rows r) rs m c (omega (arith, lm)) (both-left _ _ h)))
-one_match (r ∷ rs) (suc m) (suc n) c d w lm ln h a b = ap suc (one_match rs m n c d w (omega (arith, lm)) (omega (arith, ln)) (both-right _ _ h) a b)
+one_match (r ∷ rs) zero (suc n) c d w lm ln h a b =
+    absurd (meet r (get_or rs n d) w a b (all_get (are_other_rows r) rs n d (omega (arith, ln)) (both-left _ _ h)))
+one_match (r ∷ rs) (suc m) zero c d w lm ln h a b =
+    absurd (meet r (get_or rs m c) w b a (all_get (are_other_rows r) rs m c (omega (arith, lm)) (both-left _ _ h)))
+one_match (r ∷ rs) (suc m) (suc n) c d w lm ln h a b =
+    ap suc (one_match rs m n c d w (omega (arith, lm)) (omega (arith, ln)) (both-right _ _ h) a b)

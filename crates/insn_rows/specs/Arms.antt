@@ -79,14 +79,18 @@ operands_of qp (op.ShlAdd p4 r1 r2 count r3) = v.Pr qp ∷ v.Flag p4 ∷ v.Gr r1
 operands_of qp (op.AluImm8 f r1 imm r3) = v.Pr qp ∷ v.Gr r1 ∷ v.Signed imm ∷ v.Gr r3 ∷ v.Absent ∷ v.Absent ∷ v.Absent ∷ []
 operands_of qp (op.AddImm14 p4 r1 imm r3) = v.Pr qp ∷ v.Flag p4 ∷ v.Gr r1 ∷ v.Signed imm ∷ v.Gr r3 ∷ v.Absent ∷ v.Absent ∷ []
 operands_of qp (op.AddImm22 r1 imm r3) = v.Pr qp ∷ v.Gr r1 ∷ v.Signed imm ∷ v.Gr r3 ∷ v.Absent ∷ v.Absent ∷ v.Absent ∷ []
-operands_of qp (op.Cmp four_bytes rel kind p1 p2 r2 r3) = v.Pr qp ∷ v.Flag four_bytes ∷ v.Pr p1 ∷ v.Pr p2 ∷ v.Gr r2 ∷ v.Gr r3 ∷ v.Absent ∷ []
-operands_of qp (op.CmpZero four_bytes rel kind p1 p2 r3) = v.Pr qp ∷ v.Flag four_bytes ∷ v.Pr p1 ∷ v.Pr p2 ∷ v.Gr r3 ∷ v.Absent ∷ v.Absent ∷ []
-operands_of qp (op.CmpImm four_bytes rel kind p1 p2 imm r3) = v.Pr qp ∷ v.Flag four_bytes ∷ v.Pr p1 ∷ v.Pr p2 ∷ v.Signed imm ∷ v.Gr r3 ∷ v.Absent ∷ []
+operands_of qp (op.Cmp four_bytes rel kind p1 p2 r2 r3) =
+    v.Pr qp ∷ v.Flag four_bytes ∷ v.Pr p1 ∷ v.Pr p2 ∷ v.Gr r2 ∷ v.Gr r3 ∷ v.Absent ∷ []
+operands_of qp (op.CmpZero four_bytes rel kind p1 p2 r3) =
+    v.Pr qp ∷ v.Flag four_bytes ∷ v.Pr p1 ∷ v.Pr p2 ∷ v.Gr r3 ∷ v.Absent ∷ v.Absent ∷ []
+operands_of qp (op.CmpImm four_bytes rel kind p1 p2 imm r3) =
+    v.Pr qp ∷ v.Flag four_bytes ∷ v.Pr p1 ∷ v.Pr p2 ∷ v.Signed imm ∷ v.Gr r3 ∷ v.Absent ∷ []
 operands_of qp (op.Lane f size r1 r2 r3) = v.Pr qp ∷ v.Small size ∷ v.Gr r1 ∷ v.Gr r2 ∷ v.Gr r3 ∷ v.Absent ∷ v.Absent ∷ []
 operands_of qp (op.ShiftVar f r1 value count) = v.Pr qp ∷ v.Gr r1 ∷ v.Gr value ∷ v.Gr count ∷ v.Absent ∷ v.Absent ∷ v.Absent ∷ []
 operands_of qp (op.Popcnt r1 r3) = v.Pr qp ∷ v.Gr r1 ∷ v.Gr r3 ∷ v.Absent ∷ v.Absent ∷ v.Absent ∷ v.Absent ∷ []
 operands_of qp (op.Shrp r1 r2 r3 count) = v.Pr qp ∷ v.Gr r1 ∷ v.Gr r2 ∷ v.Gr r3 ∷ v.Small count ∷ v.Absent ∷ v.Absent ∷ []
-operands_of qp (op.Extr signed r1 r3 lowest len) = v.Pr qp ∷ v.Flag signed ∷ v.Gr r1 ∷ v.Gr r3 ∷ v.Small lowest ∷ v.Small len ∷ v.Absent ∷ []
+operands_of qp (op.Extr signed r1 r3 lowest len) =
+    v.Pr qp ∷ v.Flag signed ∷ v.Gr r1 ∷ v.Gr r3 ∷ v.Small lowest ∷ v.Small len ∷ v.Absent ∷ []
 operands_of qp (op.DepZ r1 r2 lowest len) = v.Pr qp ∷ v.Gr r1 ∷ v.Gr r2 ∷ v.Small lowest ∷ v.Small len ∷ v.Absent ∷ v.Absent ∷ []
 operands_of qp (op.DepZImm r1 imm lowest len) = v.Pr qp ∷ v.Gr r1 ∷ v.Signed imm ∷ v.Small lowest ∷ v.Small len ∷ v.Absent ∷ v.Absent ∷ []
 operands_of qp (op.DepImm r1 ones r3 lowest len) = v.Pr qp ∷ v.Gr r1 ∷ v.Flag ones ∷ v.Gr r3 ∷ v.Small lowest ∷ v.Small len ∷ v.Absent ∷ []
@@ -107,14 +111,17 @@ operands_of qp (op.Ext signed size r1 r3) = v.Pr qp ∷ v.Flag signed ∷ v.Smal
 operands_of qp (op.Load size kind hint r1 r3 u) = v.Pr qp ∷ v.Small size ∷ v.Small hint ∷ v.Gr r1 ∷ v.Gr r3 ∷ added u ∷ v.Absent ∷ []
 operands_of qp (op.Store size kind hint r3 r2 u) = v.Pr qp ∷ v.Small size ∷ v.Small hint ∷ v.Gr r3 ∷ v.Gr r2 ∷ added u ∷ v.Absent ∷ []
 operands_of qp (op.Xchg size hint r1 r3 r2) = v.Pr qp ∷ v.Small size ∷ v.Small hint ∷ v.Gr r1 ∷ v.Gr r3 ∷ v.Gr r2 ∷ v.Absent ∷ []
-operands_of qp (op.FetchAdd size release hint r1 r3 inc) = v.Pr qp ∷ v.Small size ∷ v.Flag release ∷ v.Small hint ∷ v.Gr r1 ∷ v.Gr r3 ∷ v.Short inc ∷ []
+operands_of qp (op.FetchAdd size release hint r1 r3 inc) =
+    v.Pr qp ∷ v.Small size ∷ v.Flag release ∷ v.Small hint ∷ v.Gr r1 ∷ v.Gr r3 ∷ v.Short inc ∷ []
 operands_of qp (op.ChkA clear r1 disp) = v.Pr qp ∷ v.Flag clear ∷ v.Gr r1 ∷ v.Displacement disp ∷ v.Absent ∷ v.Absent ∷ v.Absent ∷ []
 operands_of qp op.Invala = v.Pr qp ∷ v.Absent ∷ v.Absent ∷ v.Absent ∷ v.Absent ∷ v.Absent ∷ v.Absent ∷ []
 operands_of qp op.Mf = v.Pr qp ∷ v.Absent ∷ v.Absent ∷ v.Absent ∷ v.Absent ∷ v.Absent ∷ v.Absent ∷ []
 operands_of qp (op.InvalaE r1) = v.Pr qp ∷ v.Gr r1 ∷ v.Absent ∷ v.Absent ∷ v.Absent ∷ v.Absent ∷ v.Absent ∷ []
 operands_of qp (op.Alloc r1 sof sol sor) = v.Pr qp ∷ v.Gr r1 ∷ v.Small sof ∷ v.Small sol ∷ v.Small sor ∷ v.Absent ∷ v.Absent ∷ []
-operands_of qp (op.Br kind wh many clr disp) = v.Pr qp ∷ v.Small wh ∷ v.Flag many ∷ v.Flag clr ∷ v.Displacement disp ∷ v.Absent ∷ v.Absent ∷ []
-operands_of qp (op.BrCall b1 wh many clr disp) = v.Pr qp ∷ v.Br b1 ∷ v.Small wh ∷ v.Flag many ∷ v.Flag clr ∷ v.Displacement disp ∷ v.Absent ∷ []
+operands_of qp (op.Br kind wh many clr disp) =
+    v.Pr qp ∷ v.Small wh ∷ v.Flag many ∷ v.Flag clr ∷ v.Displacement disp ∷ v.Absent ∷ v.Absent ∷ []
+operands_of qp (op.BrCall b1 wh many clr disp) =
+    v.Pr qp ∷ v.Br b1 ∷ v.Small wh ∷ v.Flag many ∷ v.Flag clr ∷ v.Displacement disp ∷ v.Absent ∷ []
 operands_of qp (op.BrInd b2 wh many clr) = v.Pr qp ∷ v.Br b2 ∷ v.Small wh ∷ v.Flag many ∷ v.Flag clr ∷ v.Absent ∷ v.Absent ∷ []
 operands_of qp (op.BrRet b2 wh many clr) = v.Pr qp ∷ v.Br b2 ∷ v.Small wh ∷ v.Flag many ∷ v.Flag clr ∷ v.Absent ∷ v.Absent ∷ []
 operands_of qp (op.BrCallInd b1 b2 wh many clr) = v.Pr qp ∷ v.Br b1 ∷ v.Br b2 ∷ v.Small wh ∷ v.Flag many ∷ v.Flag clr ∷ v.Absent ∷ []

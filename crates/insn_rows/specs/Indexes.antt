@@ -11,7 +11,8 @@ is_among n (m ∷ ms) = m == n || is_among n ms
 -- Each row from the n-th on has a major opcode, the bits from 37 on, and its own index is among those of this.
 abbrev pub are_indexed : List (List ℕ) → ℕ → List Row → Bool
 are_indexed index n [] = true
-are_indexed index n (r ∷ rs) = (r.format.mask / 2 ^ 37 == 2 ^ 27 - 1) && is_among n (slice_index_or index (r.fixed / 2 ^ 37) []) && are_indexed index (suc n) rs
+are_indexed index n (r ∷ rs) =
+    (r.format.mask / 2 ^ 37 == 2 ^ 27 - 1) && is_among n (slice_index_or index (r.fixed / 2 ^ 37) []) && are_indexed index (suc n) rs
 
 -- indexes of rows.
 abbrev pub are_inside : List Row → List ℕ → Bool

@@ -71,10 +71,12 @@ sub1_wraps : alu Sub1 0 0 ≡ 2 ^ 64 - 1
 sub1_wraps = refl
 
 -- sub r1=-128,r3: the immediate is the first operand
-sub_immediate : (action_of (AluImm8 Sub 1 (negsuc 127) 2) ≡ Compute 1 0 2 (AluImmediate Sub (negsuc 127))) × (value_of (AluImmediate Sub (negsuc 127)) 7 1 ≡ 2 ^ 64 - 129)
+sub_immediate : (action_of (AluImm8 Sub 1 (negsuc 127) 2) ≡ Compute 1 0 2 (AluImmediate Sub (negsuc 127)))
+    × (value_of (AluImmediate Sub (negsuc 127)) 7 1 ≡ 2 ^ 64 - 129)
 sub_immediate = (refl, refl)
 
-adds_immediate : (action_of (AddImm14 false 1 (negsuc 0) 2) ≡ Compute 1 0 2 (AluImmediate Add (negsuc 0))) × (value_of (AluImmediate Add (negsuc 0)) 7 0 ≡ 2 ^ 64 - 1)
+adds_immediate : (action_of (AddImm14 false 1 (negsuc 0) 2) ≡ Compute 1 0 2 (AluImmediate Add (negsuc 0)))
+    × (value_of (AluImmediate Add (negsuc 0)) 7 0 ≡ 2 ^ 64 - 1)
 adds_immediate = (refl, refl)
 
 -- 2^63 is the least signed number, and above 2^63 - 1 unsigned.
@@ -92,7 +94,8 @@ cmp4_sign : compared true Ge (2 ^ 32 - 1) (2 ^ 32) ≡ false
 cmp4_sign = refl
 
 -- tbit.z is true where the bit is 0, and has no result where the register has NaT.
-tbit_of_bit : (action_of (Tbit false 6 7 8 63) ≡ Test Normal 6 7 0 8 (BitIsZero 63)) × (result_of (BitIsZero 63) (record { value = 0; nat = false }) (record { value = 2 ^ 63; nat = false }) ≡ Some false)
+tbit_of_bit : (action_of (Tbit false 6 7 8 63) ≡ Test Normal 6 7 0 8 (BitIsZero 63))
+    × (result_of (BitIsZero 63) (record { value = 0; nat = false }) (record { value = 2 ^ 63; nat = false }) ≡ Some false)
 tbit_of_bit = (refl, refl)
 
 tbit_of_nat : result_of (BitIsZero 63) (record { value = 0; nat = false }) (record { value = 0; nat = true }) ≡ None

@@ -34,11 +34,13 @@ shifted_left a count h =
 pair_right : (count a b : ℕ) → count ≤ 64 → (2 ^ 64 * a + b) / 2 ^ count ≡ a * 2 ^ (64 - count) + b / 2 ^ count
 pair_right count a b h =
     let k = 64 - count in
-    let e : 2 ^ 64 * a ≡ a * 2 ^ k * 2 ^ count = mul_comm (2 ^ 64) a ∙ ap (λ x. a * x) (sym (word_at count h)) ∙ sym (mul_assoc a (2 ^ k) (2 ^ count)) in
+    let e : 2 ^ 64 * a ≡ a * 2 ^ k * 2 ^ count =
+    mul_comm (2 ^ 64) a ∙ ap (λ x. a * x) (sym (word_at count h)) ∙ sym (mul_assoc a (2 ^ k) (2 ^ count)) in
     ap (λ x. (x + b) / 2 ^ count) e ∙ mul-add-div_right (pow_pos count) (a * 2 ^ k) b
 
 -- `(a << (64 - count)) | (b >> count)`
-pub pair_of : (count a b : ℕ) → count ≤ 63 → b < 2 ^ 64 → bit_or ((a * 2 ^ (64 - count)) % 2 ^ 64) (b / 2 ^ count) ≡ ((2 ^ 64 * a + b) / 2 ^ count) % 2 ^ 64
+pub pair_of : (count a b : ℕ) → count ≤ 63 → b < 2 ^ 64 → bit_or ((a * 2 ^ (64 - count)) % 2 ^ 64) (b / 2 ^ count)
+    ≡ ((2 ^ 64 * a + b) / 2 ^ count) % 2 ^ 64
 pair_of count a b h fit =
     let k = 64 - count in
     let e : count + k ≡ 64 = omega arith in
@@ -46,8 +48,10 @@ pair_of count a b h fit =
     let low : b / 2 ^ count < 2 ^ k = shr_below b k count (rw e' fit) in
     let joined = or_shifted (a % 2 ^ count) k (b / 2 ^ count) low in
     let sum = a * 2 ^ k + b / 2 ^ count in
-    let cut : sum % 2 ^ (count + k) ≡ (a % 2 ^ count) * 2 ^ k + b / 2 ^ count = mod-pow-add sum count k ∙ (rw (shr_high a k (b / 2 ^ count) low, mod_low a k (b / 2 ^ count) low) refl) in
-    ap (λ x. bit_or x (b / 2 ^ count)) (shifted_left a count (omega arith)) ∙ joined ∙ sym (rw e at cut) ∙ ap (λ x. x % 2 ^ 64) (sym (pair_right count a b (omega arith)))
+    let cut : sum % 2 ^ (count + k) ≡ (a % 2 ^ count) * 2 ^ k + b / 2 ^ count =
+    mod-pow-add sum count k ∙ (rw (shr_high a k (b / 2 ^ count) low, mod_low a k (b / 2 ^ count) low) refl) in
+    ap (λ x. bit_or x (b / 2 ^ count)) (shifted_left a count (omega arith)) ∙ joined ∙ sym (rw e at cut)
+    ∙ ap (λ x. x % 2 ^ 64) (sym (pair_right count a b (omega arith)))
 
 -- The ones of a field at its position.
 field_ones : (pos width : ℕ) → (2 ^ width - 1) * 2 ^ pos ≡ 2 ^ (width + pos) - 2 ^ pos
@@ -73,7 +77,8 @@ three_parts pos width a =
     omega arith
 
 -- `a & !(ones << pos)`
-others_of : (pos width a : ℕ) → pos + width ≤ 64 → a < 2 ^ 64 → bit_and a (2 ^ 64 - 1 - (2 ^ width - 1) * 2 ^ pos) ≡ (a / 2 ^ (pos + width) * 2 ^ width) * 2 ^ pos + a % 2 ^ pos
+others_of : (pos width a : ℕ) → pos + width ≤ 64 → a < 2 ^ 64 → bit_and a (2 ^ 64 - 1 - (2 ^ width - 1) * 2 ^ pos)
+    ≡ (a / 2 ^ (pos + width) * 2 ^ width) * 2 ^ pos + a % 2 ^ pos
 others_of pos width a h fit =
     let ones = (2 ^ width - 1) * 2 ^ pos in
     let small : ones < 2 ^ 64 = ones_below pos width h in
@@ -93,20 +98,25 @@ weighed top width field pos rest =
     omega arith
 
 -- `(a & !(ones << pos)) | (field << pos)`
-pub deposited : (pos width field a : ℕ) → pos + width ≤ 64 → a < 2 ^ 64 → field < 2 ^ width → bit_or (bit_and a (2 ^ 64 - 1 - ((2 ^ width - 1) * 2 ^ pos) % 2 ^ 64)) ((field * 2 ^ pos) % 2 ^ 64) ≡ a % 2 ^ pos + 2 ^ pos * field + 2 ^ (pos + width) * (a / 2 ^ (pos + width))
+pub deposited : (pos width field a : ℕ) → pos + width ≤ 64 → a < 2 ^ 64 → field < 2 ^ width
+    → bit_or (bit_and a (2 ^ 64 - 1 - ((2 ^ width - 1) * 2 ^ pos) % 2 ^ 64)) ((field * 2 ^ pos) % 2 ^ 64)
+    ≡ a % 2 ^ pos + 2 ^ pos * field + 2 ^ (pos + width) * (a / 2 ^ (pos + width))
 deposited pos width field a h fit low =
     let top = a / 2 ^ (pos + width) in
     let rest = a % 2 ^ pos in
     let some = pow_pos width in
-    let ones : ((2 ^ width - 1) * 2 ^ pos) % 2 ^ 64 ≡ (2 ^ width - 1) * 2 ^ pos = shl_whole (2 ^ width - 1) width pos 64 (omega arith) (omega arith) in
+    let ones : ((2 ^ width - 1) * 2 ^ pos) % 2 ^ 64 ≡ (2 ^ width - 1) * 2 ^ pos =
+    shl_whole (2 ^ width - 1) width pos 64 (omega arith) (omega arith) in
     let shifted : (field * 2 ^ pos) % 2 ^ 64 ≡ field * 2 ^ pos + 0 = shl_whole field width pos 64 low (omega arith) ∙ (omega arith) in
     let block = or_block pos (top * 2 ^ width) field rest 0 (mod_below a (2 ^ pos) (pow_pos pos)) (pow_pos pos) in
     let joined = or_shifted top width field low in
-    let sum : (top * 2 ^ width + field) * 2 ^ pos + rest ≡ rest + 2 ^ pos * field + 2 ^ (pos + width) * top = weighed top (2 ^ width) field (2 ^ pos) rest ∙ ap (λ x. rest + 2 ^ pos * field + x * top) (sym (pow-add 2 pos width)) in
+    let sum : (top * 2 ^ width + field) * 2 ^ pos + rest ≡ rest + 2 ^ pos * field + 2 ^ (pos + width) * top =
+    weighed top (2 ^ width) field (2 ^ pos) rest ∙ ap (λ x. rest + 2 ^ pos * field + x * top) (sym (pow-add 2 pos width)) in
     rw (ones, others_of pos width a h fit, shifted, block, joined, or_zero_r rest) sum
 
 -- A number moved to the top of a word and back, with its sign: where its top bit is 0.
-extended_small : (width number : ℕ) → 1 ≤ width → width ≤ 64 → number < 2 ^ (width - 1) → shift_right_signed (number * 2 ^ (64 - width)) (64 - width) ≡ extended width number
+extended_small : (width number : ℕ) → 1 ≤ width → width ≤ 64 → number < 2 ^ (width - 1)
+    → shift_right_signed (number * 2 ^ (64 - width)) (64 - width) ≡ extended width number
 extended_small width number some within small =
     let unused = 64 - width in
     let e : width - 1 + unused ≡ 63 = omega arith in
@@ -115,7 +125,8 @@ extended_small width number some within small =
     rw (lt-ltb (number * 2 ^ unused) (2 ^ 63) low, lt-ltb unused 64 few, lt-ltb number (2 ^ (width - 1)) small) (shl-shr number unused)
 
 -- The complement of the number that was moved, moved back.
-turned_right : (width number : ℕ) → width ≤ 64 → number < 2 ^ width → (2 ^ 64 - 1 - number * 2 ^ (64 - width)) / 2 ^ (64 - width) ≡ 2 ^ width - 1 - number
+turned_right : (width number : ℕ) → width ≤ 64 → number < 2 ^ width
+    → (2 ^ 64 - 1 - number * 2 ^ (64 - width)) / 2 ^ (64 - width) ≡ 2 ^ width - 1 - number
 turned_right width number within fits =
     let unused = 64 - width in
     let rest = 2 ^ width - 1 - number in
@@ -131,7 +142,8 @@ turned_right width number within fits =
     ap (λ x. x / 2 ^ unused) turned ∙ shr_high rest unused (2 ^ unused - 1) low
 
 -- A number whose top bit is 1, moved to the top and back, is extended with ones.
-extended_large : (width number : ℕ) → 1 ≤ width → width ≤ 64 → 2 ^ (width - 1) ≤ number → number < 2 ^ width → shift_right_signed (number * 2 ^ (64 - width)) (64 - width) ≡ extended width number
+extended_large : (width number : ℕ) → 1 ≤ width → width ≤ 64 → 2 ^ (width - 1) ≤ number → number < 2 ^ width
+    → shift_right_signed (number * 2 ^ (64 - width)) (64 - width) ≡ extended width number
 extended_large width number some within large fits =
     let unused = 64 - width in
     let e : width - 1 + unused ≡ 63 = omega arith in
@@ -141,13 +153,20 @@ extended_large width number some within large fits =
     let few : unused < 64 = omega arith in
     let most : 2 ^ width ≤ 2 ^ 64 = pow-le-pow_right {n = 2} (omega arith) within in
     let back : 2 ^ 64 - 1 - (2 ^ width - 1 - number) ≡ number + 2 ^ 64 - 2 ^ width = omega arith in
-    rw (le-ltb (number * 2 ^ unused) (2 ^ 63) high, lt-ltb unused 64 few, le-ltb number (2 ^ (width - 1)) large, turned_right width number within fits) back
+    rw (
+      le-ltb (number * 2 ^ unused) (2 ^ 63) high,
+      lt-ltb unused 64 few,
+      le-ltb number (2 ^ (width - 1)) large,
+      turned_right width number within fits,
+    ) back
 
 by_lt : {P : Type 0} (a b : ℕ) → (a < b → P) → (b ≤ a → P) → P
 by_lt a b f g = ⊎_elim f g (cases_lt a b)
 
 -- A number moved to the top of a word and back, with its sign.
-pub extended_of : (width number : ℕ) → 1 ≤ width → width ≤ 64 → number < 2 ^ width → shift_right_signed ((number * 2 ^ (64 - width)) % 2 ^ 64) (64 - width) ≡ extended width number
+pub extended_of : (width number : ℕ) → 1 ≤ width → width ≤ 64 → number < 2 ^ width
+    → shift_right_signed ((number * 2 ^ (64 - width)) % 2 ^ 64) (64 - width) ≡ extended width number
 extended_of width number some within fits =
     let whole = shl_whole number width (64 - width) 64 fits (omega arith) in
-    rw whole (by_lt number (2 ^ (width - 1)) (extended_small width number some within) (λ large. extended_large width number some within large fits))
+    rw whole (by_lt number (2 ^ (width - 1)) (extended_small width number some within)
+    (λ large. extended_large width number some within large fits))

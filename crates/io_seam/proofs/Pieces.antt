@@ -20,7 +20,8 @@ Appends-next a b c bytes i n within before now =
     subst (Appends a c) (sym (take-add i n bytes)) (Appends-trans a b c _ _ before (subst (Appends b c) part now))
 
 -- What is consumed is the front of what was left.
-pub LosesFirst-consumed : (old new : Option (List ℕ)) (bytes : List ℕ) → Consumes old new bytes → IfSome old (λ left. LosesFirst (length bytes) left new)
+pub LosesFirst-consumed : (old new : Option (List ℕ)) (bytes : List ℕ) → Consumes old new bytes
+    → IfSome old (λ left. LosesFirst (length bytes) left new)
 LosesFirst-consumed None new bytes h = tt
 LosesFirst-consumed (Some left) None bytes h = absurd h
 LosesFirst-consumed (Some left) (Some rest) bytes h =

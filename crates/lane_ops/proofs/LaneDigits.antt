@@ -24,11 +24,13 @@ digits_of_number p (suc n) (x ∷ xs) e h =
     let rest = number_l p xs in
     let turn : x + p * rest ≡ p * rest + x = omega arith in
     let low : (x + p * rest) % p ≡ x = ap (λ m. m % p) turn ∙ mul-add-mod_self_left p rest x ∙ mod-eq_of_lt h.0 in
-    let high : (x + p * rest) / p ≡ rest = ap (λ m. m / p) turn ∙ mul-add-div (let some : 0 < p = omega (arith, h.0) in some) rest x ∙ (rw (div-eq_of_lt h.0) (omega arith)) in
+    let high : (x + p * rest) / p ≡ rest =
+    ap (λ m. m / p) turn ∙ mul-add-div (let some : 0 < p = omega (arith, h.0) in some) rest x ∙ (rw (div-eq_of_lt h.0) (omega arith)) in
     rw (low, high, digits_of_number p n xs (omega (arith, e)) h.1) refl
 
 -- The sum of lanes, each at its place, is the number whose digits they are.
-lanes_are : (f : LaneFn) (w a b k n : ℕ) → number_l (2 ^ w) (zip2 (lane_value f w) (digits_l (2 ^ w) n (a / 2 ^ (w * k))) (digits_l (2 ^ w) n (b / 2 ^ (w * k)))) * 2 ^ (w * k) ≡ lanes_from f w a b k n
+lanes_are : (f : LaneFn) (w a b k n : ℕ) → number_l (2 ^ w) (zip2 (lane_value f w) (digits_l (2 ^ w) n (a / 2 ^ (w * k)))
+    (digits_l (2 ^ w) n (b / 2 ^ (w * k)))) * 2 ^ (w * k) ≡ lanes_from f w a b k n
 lanes_are f w a b k zero = omega arith
 lanes_are f w a b k (suc n) =
     let same : w * k + w ≡ w * suc k = omega arith in
@@ -36,14 +38,18 @@ lanes_are f w a b k (suc n) =
     let power : 2 ^ (w * suc k) ≡ 2 ^ (w * k) * 2 ^ w = ap (λ j. 2 ^ j) (sym same) ∙ pow-add 2 (w * k) w in
     let rest = lanes_are f w a b (suc k) n in
     let x = lane_value f w (lane w k a) (lane w k b) in
-    let m = number_l (2 ^ w) (zip2 (lane_value f w) (digits_l (2 ^ w) n (a / 2 ^ (w * suc k))) (digits_l (2 ^ w) n (b / 2 ^ (w * suc k)))) in
-    rw (next a, next b) (spread x (2 ^ w) m (2 ^ (w * k)) ∙ ap (λ q. x * 2 ^ (w * k) + m * q) (sym power) ∙ ap (λ r. x * 2 ^ (w * k) + r) rest)
+    let m =
+    number_l (2 ^ w) (zip2 (lane_value f w) (digits_l (2 ^ w) n (a / 2 ^ (w * suc k))) (digits_l (2 ^ w) n (b / 2 ^ (w * suc k)))) in
+    rw (next a, next b) (spread x (2 ^ w) m (2 ^ (w * k)) ∙ ap (λ q. x * 2 ^ (w * k) + m * q) (sym power)
+    ∙ ap (λ r. x * 2 ^ (w * k) + r) rest)
   where
     spread : (x p m q : ℕ) → (x + p * m) * q ≡ x * q + m * (q * p)
-    spread x p m q = add-mul x (p * m) q ∙ ap (λ r. x * q + r) (ap (λ r. r * q) (mul_comm p m) ∙ mul_assoc m p q ∙ ap (λ r. m * r) (mul_comm p q))
+    spread x p m q =
+        add-mul x (p * m) q ∙ ap (λ r. x * q + r) (ap (λ r. r * q) (mul_comm p m) ∙ mul_assoc m p q ∙ ap (λ r. m * r) (mul_comm p q))
 
 -- The lanes of two words, taken as digits, come to the sum of all lanes.
-sum_of_lanes : (f : LaneFn) (w n a b : ℕ) → number_l (2 ^ w) (zip2 (lane_value f w) (digits_l (2 ^ w) n a) (digits_l (2 ^ w) n b)) ≡ lanes_from f w a b 0 n
+sum_of_lanes : (f : LaneFn) (w n a b : ℕ) → number_l (2 ^ w) (zip2 (lane_value f w) (digits_l (2 ^ w) n a) (digits_l (2 ^ w) n b))
+    ≡ lanes_from f w a b 0 n
 sum_of_lanes f w n a b =
     let one : 2 ^ (w * 0) ≡ 1 = ap (λ k. 2 ^ k) (let e : w * 0 ≡ 0 = omega arith in e) in
     let whole = λ (x : ℕ). ap (λ q. x / q) one ∙ div-one x in
@@ -52,7 +58,8 @@ sum_of_lanes f w n a b =
 
 -- Bytes, from the low end.
 
-by_bytes : (x0 x1 x2 x3 x4 x5 x6 x7 : ℕ) → from_le_bytes w64 (x0 ∷ x1 ∷ x2 ∷ x3 ∷ x4 ∷ x5 ∷ x6 ∷ x7 ∷ []) ≡ number_l 256 (x0 ∷ x1 ∷ x2 ∷ x3 ∷ x4 ∷ x5 ∷ x6 ∷ x7 ∷ [])
+by_bytes : (x0 x1 x2 x3 x4 x5 x6 x7 : ℕ) → from_le_bytes w64 (x0 ∷ x1 ∷ x2 ∷ x3 ∷ x4 ∷ x5 ∷ x6 ∷ x7 ∷ [])
+    ≡ number_l 256 (x0 ∷ x1 ∷ x2 ∷ x3 ∷ x4 ∷ x5 ∷ x6 ∷ x7 ∷ [])
 by_bytes x0 x1 x2 x3 x4 x5 x6 x7 = omega arith
 
 -- The word with these bytes.
@@ -66,7 +73,10 @@ number_of_bytes a h = sym (by_bytes _ _ _ _ _ _ _ _) ∙ from_le_bytes-to_le_byt
 bytes_are : (a : ℕ) → a < 2 ^ 64 → to_le_bytes w64 a ≡ digits_l 256 8 a
 bytes_are a h =
     let below = λ (n : ℕ). mod_below n 256 (omega arith) in
-    sym (digits_of_number 256 8 (to_le_bytes w64 a) refl (below _, (below _, (below _, (below _, (below _, (below _, (below _, (below _, tt))))))))) ∙ ap (digits_l 256 8) (number_of_bytes a h)
+    sym (digits_of_number 256 8 (to_le_bytes w64 a) refl (
+      below _,
+      (below _, (below _, (below _, (below _, (below _, (below _, (below _, tt))))))),
+    )) ∙ ap (digits_l 256 8) (number_of_bytes a h)
 
 -- Operations on the vectors of two words.
 
@@ -80,7 +90,8 @@ long f w p zero a b = refl
 long f w p (suc n) a b = ap suc (long f w p n (a / p) (b / p))
 
 -- In lanes of more than a byte.
-pub by_lanes : (f : LaneFn) (w n a b : ℕ) (us vs made bytes : List ℕ) → a < 2 ^ 64 → b < 2 ^ 64 → w * n ≡ 64 → us ≡ to_le_bytes w64 a → vs ≡ to_le_bytes w64 b
+pub by_lanes : (f : LaneFn) (w n a b : ℕ) (us vs made bytes : List ℕ) → a < 2 ^ 64 → b < 2 ^ 64 → w * n ≡ 64 → us ≡ to_le_bytes w64 a
+    → vs ≡ to_le_bytes w64 b
     → made ≡ zip2 (lane_value f w) (digits_l (2 ^ w) n (number_l 256 us)) (digits_l (2 ^ w) n (number_l 256 vs))
     → bytes ≡ digits_l 256 8 (number_l (2 ^ w) made) → from_le_bytes w64 bytes ≡ lanes_from f w a b 0 n
 by_lanes f w n a b us vs made bytes h k whole us_are vs_are made_are bytes_are =
@@ -93,13 +104,20 @@ by_lanes f w n a b us vs made bytes h k whole us_are vs_are made_are bytes_are =
     let some = pow_pos (w * 0) in
     let bits : w * (0 + n) ≡ 64 = ap (λ m. w * m) (let e : 0 + n ≡ n = omega arith in e) ∙ whole in
     let below : number_l (2 ^ w) zs < 2 ^ 64 = omega (arith, sum, rw bits at most, some) in
-    ap (from_le_bytes w64) (bytes_are ∙ ap (λ xs. digits_l 256 8 (number_l (2 ^ w) xs)) are) ∙ word_of_bytes (number_l (2 ^ w) zs) below ∙ sum
+    ap (from_le_bytes w64) (bytes_are ∙ ap (λ xs. digits_l 256 8 (number_l (2 ^ w) xs)) are) ∙ word_of_bytes (number_l (2 ^ w) zs) below
+    ∙ sum
 
 -- In bytes.
-pub by_single_bytes : (f : LaneFn) (a b : ℕ) (us vs bytes : List ℕ) → a < 2 ^ 64 → b < 2 ^ 64 → us ≡ to_le_bytes w64 a → vs ≡ to_le_bytes w64 b → bytes ≡ zip2 (lane_value f 8) us vs → from_le_bytes w64 bytes ≡ lanes_from f 8 a b 0 8
+pub by_single_bytes : (f : LaneFn) (a b : ℕ) (us vs bytes : List ℕ) → a < 2 ^ 64 → b < 2 ^ 64 → us ≡ to_le_bytes w64 a
+    → vs ≡ to_le_bytes w64 b → bytes ≡ zip2 (lane_value f 8) us vs → from_le_bytes w64 bytes ≡ lanes_from f 8 a b 0 8
 by_single_bytes f a b us vs bytes h k us_are vs_are are =
-    let same = λ (ws : List ℕ) (n : ℕ) (l : n < 2 ^ 64) (e : ws ≡ to_le_bytes w64 n). e ∙ bytes_are n l ∙ ap (digits_l 256 8) (sym (ap (number_l 256) e ∙ number_of_bytes n l)) in
-    let made : bytes ≡ zip2 (lane_value f 8) (digits_l 256 8 (number_l 256 us)) (digits_l 256 8 (number_l 256 vs)) = are ∙ ap (λ xs. zip2 (lane_value f 8) xs vs) (same us a h us_are) ∙ ap (λ ys. zip2 (lane_value f 8) (digits_l 256 8 (number_l 256 us)) ys) (same vs b k vs_are) in
+    let same =
+    λ (ws : List ℕ) (n : ℕ) (l : n < 2 ^ 64) (e : ws ≡ to_le_bytes w64 n). e ∙ bytes_are n l
+    ∙ ap (digits_l 256 8) (sym (ap (number_l 256) e ∙ number_of_bytes n l)) in
+    let made : bytes ≡ zip2 (lane_value f 8) (digits_l 256 8 (number_l 256 us)) (digits_l 256 8 (number_l 256 vs)) =
+    are ∙ ap (λ xs. zip2 (lane_value f 8) xs vs) (same us a h us_are)
+    ∙ ap (λ ys. zip2 (lane_value f 8) (digits_l 256 8 (number_l 256 us)) ys) (same vs b k vs_are) in
     let eight : length bytes ≡ 8 = ap length made ∙ long f 8 256 8 (number_l 256 us) (number_l 256 vs) in
-    let below : Each1 (λ x. x < 256) bytes = subst (Each1 (λ x. x < 256)) (sym made) (fit f 8 (digits_l 256 8 (number_l 256 us)) (digits_l 256 8 (number_l 256 vs))) in
+    let below : Each1 (λ x. x < 256) bytes =
+    subst (Each1 (λ x. x < 256)) (sym made) (fit f 8 (digits_l 256 8 (number_l 256 us)) (digits_l 256 8 (number_l 256 vs))) in
     by_lanes f 8 8 a b us vs bytes bytes h k refl us_are vs_are made (sym (digits_of_number 256 8 bytes eight below))

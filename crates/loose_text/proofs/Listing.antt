@@ -26,19 +26,23 @@ use Rattle.loose_items.specs.Units.{bare_unit}
 use Rattle.loose_text.specs.LooseParts.{insn_of, IsNarrow}
 
 -- An operation of unit I with a narrow number has a row, and so has a check of unit M.
-break_row : (qp imm : ℕ) → qp < 64 → imm < 2 ^ 21 → AsRow rows_i (row_index_i (opcode_of (op.Break unit.I imm))) (record { qp = qp; op = op.Break unit.I imm })
+break_row : (qp imm : ℕ) → qp < 64 → imm < 2 ^ 21 → AsRow rows_i (row_index_i (opcode_of (op.Break unit.I imm)))
+    (record { qp = qp; op = op.Break unit.I imm })
 unfolding rows_i listed
 break_row qp imm small narrow = grind arith
 
-nop_row : (qp imm : ℕ) → qp < 64 → imm < 2 ^ 21 → AsRow rows_i (row_index_i (opcode_of (op.Nop unit.I imm))) (record { qp = qp; op = op.Nop unit.I imm })
+nop_row : (qp imm : ℕ) → qp < 64 → imm < 2 ^ 21 → AsRow rows_i (row_index_i (opcode_of (op.Nop unit.I imm)))
+    (record { qp = qp; op = op.Nop unit.I imm })
 unfolding rows_i listed
 nop_row qp imm small narrow = grind arith
 
-hint_row : (qp imm : ℕ) → qp < 64 → imm < 2 ^ 21 → AsRow rows_i (row_index_i (opcode_of (op.Hint unit.I imm))) (record { qp = qp; op = op.Hint unit.I imm })
+hint_row : (qp imm : ℕ) → qp < 64 → imm < 2 ^ 21 → AsRow rows_i (row_index_i (opcode_of (op.Hint unit.I imm)))
+    (record { qp = qp; op = op.Hint unit.I imm })
 unfolding rows_i listed
 hint_row qp imm small narrow = grind arith
 
-check_row : (qp r2 : ℕ) (disp : ℤ) → qp < 64 → r2 < 128 → FitsSigned 21 disp → AsRow rows_m (row_index_m (opcode_of (op.ChkS unit.M r2 disp))) (record { qp = qp; op = op.ChkS unit.M r2 disp })
+check_row : (qp r2 : ℕ) (disp : ℤ) → qp < 64 → r2 < 128 → FitsSigned 21 disp
+    → AsRow rows_m (row_index_m (opcode_of (op.ChkS unit.M r2 disp))) (record { qp = qp; op = op.ChkS unit.M r2 disp })
 unfolding rows_m listed
 check_row qp r2 disp small register near = grind arith
 
@@ -47,16 +51,19 @@ narrow_hint : (u : ExecutionUnit) (imm : ℕ) → IsHintOf u imm → imm < 2 ^ 2
 narrow_hint u imm h = grind arith
 
 -- An operation without its unit letter, with the unit that it has then.
-bare_listed : (qp : ℕ) (x : Op) → IsNarrow x → IsListed (record { qp = qp; op = x }) → IsListed (record { qp = qp; op = lettered (bare_unit x) x })
+bare_listed : (qp : ℕ) (x : Op) → IsNarrow x → IsListed (record { qp = qp; op = x })
+    → IsListed (record { qp = qp; op = lettered (bare_unit x) x })
 bare_listed qp (op.Break u imm) narrow l = inr (inl (of_row_i _ (break_row qp imm (printed _ l).0 narrow)))
 bare_listed qp (op.Nop u imm) narrow l = inr (inl (of_row_i _ (nop_row qp imm (printed _ l).0 narrow)))
-bare_listed qp (op.Hint u imm) narrow l = inr (inl (of_row_i _ (hint_row qp imm (printed _ l).0 (narrow_hint u imm (ranges_of_listed _ l)))))
+bare_listed qp (op.Hint u imm) narrow l =
+    inr (inl (of_row_i _ (hint_row qp imm (printed _ l).0 (narrow_hint u imm (ranges_of_listed _ l)))))
 bare_listed qp (op.ChkS u r2 disp) narrow l =
     let p = printed (record { qp = qp; op = op.ChkS u r2 disp }) l in
     inr (inr (inl (of_row_m _ (check_row qp r2 disp p.0 p.1.0 (ranges_of_listed (record { qp = qp; op = op.ChkS u r2 disp }) l).1))))
 bare_listed qp x narrow l = l
 
-insn_is_listed : (bare : Bool) (i : Insn) → IsListed i → (IsTrue bare → IsNarrow i.op) → IsListed (if bare then record { qp = i.qp; op = lettered (bare_unit i.op) i.op } else i)
+insn_is_listed : (bare : Bool) (i : Insn) → IsListed i → (IsTrue bare → IsNarrow i.op)
+    → IsListed (if bare then record { qp = i.qp; op = lettered (bare_unit i.op) i.op } else i)
 insn_is_listed true i listed narrow = bare_listed i.qp i.op (narrow refl) listed
 insn_is_listed false i listed narrow = listed
 

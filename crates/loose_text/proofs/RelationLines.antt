@@ -55,15 +55,18 @@ both false b c e = absurd cc
 
 relation_relates : (xs : List Token) → Relates (relation_of xs)
 relation_relates xs =
-    by_test ((agreed_relation [] xs == length xs) && ((length xs % 2 == 1) && nat_le 2 (length (named_predicates xs)))) (Ok (line.Relation (named_predicates xs))) (Err (relation_fault (agreed_relation [] xs) xs))
-    (λ e. (are_predicates xs (two (length (named_predicates xs)) (both (agreed_relation [] xs == length xs) (length xs % 2 == 1) (nat_le 2 (length (named_predicates xs))) e))).related) tt
+    by_test ((agreed_relation [] xs == length xs) && ((length xs % 2 == 1) && nat_le 2 (length (named_predicates xs))))
+    (Ok (line.Relation (named_predicates xs))) (Err (relation_fault (agreed_relation [] xs) xs))
+    (λ e. (are_predicates xs (two (length (named_predicates xs)) (both (agreed_relation [] xs == length xs) (length xs % 2 == 1)
+    (nat_le 2 (length (named_predicates xs))) e))).related) tt
   where
     two : (n : ℕ) → nat_le 2 n ≡ true → 2 ≤ n
     two n e = grind (arith, nat_tests)
 
 data_relates : (z : AccessSize) (xs : List Token) → Relates (data_of z xs)
 data_relates z xs =
-    by_test ((agreed_data (data_field z) 0 xs == length xs) && (length xs % 2 == 1)) (Ok (line.Numbers (bytes z) (numbers_of (2 ^ (8 * bytes z)) xs))) (Err (data_fault (agreed_data (data_field z) 0 xs) xs))
+    by_test ((agreed_data (data_field z) 0 xs == length xs) && (length xs % 2 == 1))
+    (Ok (line.Numbers (bytes z) (numbers_of (2 ^ (8 * bytes z)) xs))) (Err (data_fault (agreed_data (data_field z) 0 xs) xs))
     (λ e. tt) tt
 
 named_relates : (o : Option (List ℕ)) (value : List ℕ → Line) → ((name : List ℕ) → NamesRelated (value name)) → Relates (named o value)
@@ -81,12 +84,15 @@ directive_value_relates form.Skip after = tt
 directive_value_relates _ after = tt
 
 directive_relates : (forms : List Form) (after : List KindAndText) → Relates (directive_of forms after)
-directive_relates forms after = bound (read_form forms (tokens after) (tokens after)) (λ f. directive_value f after) (λ f. directive_value_relates f after)
+directive_relates forms after =
+    bound (read_form forms (tokens after) (tokens after)) (λ f. directive_value f after) (λ f. directive_value_relates f after)
 
 slot_relates : (forms : List Form) (name : List ℕ) (before after : List KindAndText) → Relates (slot_of forms name before after)
 slot_relates forms name before after =
     bound (predicate_of (tokens before)) (λ qp. slot_under qp forms name (tokens after) after)
-    (λ qp. bound (read_form forms (without_stop (tokens after)) (tokens after)) (λ f. made qp f) (λ f. bound (op f) (λ x. Ok (line.Slot (draft_of f (completers_or_none f name) qp after x) (ends_in_stop (tokens after)))) (λ x. tt)))
+    (λ qp. bound (read_form forms (without_stop (tokens after)) (tokens after)) (λ f. made qp f)
+    (λ f. bound (op f) (λ x. Ok (line.Slot (draft_of f (completers_or_none f name) qp after x) (ends_in_stop (tokens after))))
+    (λ x. tt)))
   where
     op : Form → Result Op LineFault
     op f = or_fault (op_of f (completers_or_none f name) (taken (row_of f).items (without_stop (tokens after)))) fault.Form
@@ -102,14 +108,16 @@ either_relates : (b : Bool) (r s : Result Line LineFault) → Relates r → Rela
 either_relates true r s h k = h
 either_relates false r s h k = k
 
-formed_relates : (f : Form) (forms : List Form) (name : List ℕ) (before after : List KindAndText) → Relates (formed f forms name before after)
+formed_relates : (f : Form) (forms : List Form) (name : List ℕ) (before after : List KindAndText)
+    → Relates (formed f forms name before after)
 formed_relates form.Data1 forms name before after = alone_relates before _ (data_relates size.One (tokens after))
 formed_relates form.Data2 forms name before after = alone_relates before _ (data_relates size.Two (tokens after))
 formed_relates form.Data4 forms name before after = alone_relates before _ (data_relates size.Four (tokens after))
 formed_relates form.Data8 forms name before after = alone_relates before _ (data_relates size.Eight (tokens after))
 formed_relates form.PredRel forms name before after = alone_relates before _ (relation_relates (tokens after))
 formed_relates f forms name before after =
-    either_relates (is_instruction f) (slot_of forms name before after) (alone before (directive_of forms after)) (slot_relates forms name before after) (alone_relates before _ (directive_relates forms after))
+    either_relates (is_instruction f) (slot_of forms name before after) (alone before (directive_of forms after))
+    (slot_relates forms name before after) (alone_relates before _ (directive_relates forms after))
 
 worded_relates : (forms : List Form) (name : List ℕ) (before after : List KindAndText) → Relates (among forms name before after)
 worded_relates [] name before after = tt
@@ -149,13 +157,19 @@ led_at_relates ws (Some k) = of (slice_get ws k) refl
     of (Some w) e = rw e (led_by_relates w (take k ws) (drop (k + 1) ws))
 
 label_relates : (text : List ℕ) (ws : List KindAndText) → Relates (label_of text ws)
-label_relates text [] = by_test (is_some (numbered_register text)) (Err fault.Form) (named (name_of text) (λ name. line.Label name)) (λ e. tt) (named_relates (name_of text) (λ name. line.Label name) (λ name. tt))
+label_relates text [] =
+    by_test (is_some (numbered_register text)) (Err fault.Form) (named (name_of text) (λ name. line.Label name)) (λ e. tt)
+    (named_relates (name_of text) (λ name. line.Label name) (λ name. tt))
 label_relates text (w ∷ ws) = tt
 
 value_relates : (ws : List KindAndText) → Relates (value_of ws)
 value_relates [] = tt
 value_relates (w ∷ []) = led_at_relates (w ∷ []) (lead_at (tokens (w ∷ [])))
-value_relates (w ∷ x ∷ ws) = by_test (is_name_lexeme w && is_colon (token_of x.0 x.1)) (label_of w.1 ws) (led (w ∷ x ∷ ws)) (λ e. label_relates w.1 ws) (led_at_relates (w ∷ x ∷ ws) (lead_at (tokens (w ∷ x ∷ ws))))
+value_relates (w ∷ x ∷ ws) =
+    by_test (is_name_lexeme w && is_colon (token_of x.0 x.1)) (label_of w.1 ws) (led (w ∷ x ∷ ws)) (λ e. label_relates w.1 ws)
+    (led_at_relates (w ∷ x ∷ ws) (lead_at (tokens (w ∷ x ∷ ws))))
 
 pub line_relates : (bytes : List ℕ) (value : Line) → reading_of bytes ≡ Ok value → NamesRelated value
-line_relates bytes value is = subst Relates is (by_test (has_only_plain bytes) (value_of (texts bytes (lexemes_from 0 0 bytes))) (Err fault.Char) (λ e. value_relates (texts bytes (lexemes_from 0 0 bytes))) tt)
+line_relates bytes value is =
+    subst Relates is (by_test (has_only_plain bytes) (value_of (texts bytes (lexemes_from 0 0 bytes))) (Err fault.Char)
+    (λ e. value_relates (texts bytes (lexemes_from 0 0 bytes))) tt)

@@ -73,7 +73,11 @@ end_decided count s = (
     decided (dec_le 1 (length s.items)),
     (
       found_decided (name_fault s),
-      (first_decided _ (relations_decided (IsItemEntry (loose_of s).items (loose_of s).entries) (is_entry (loose_of s).items (loose_of s).entries) [] s.declared.relations), tt),
+      (
+        first_decided _ (relations_decided (IsItemEntry (loose_of s).items (loose_of s).entries)
+            (is_entry (loose_of s).items (loose_of s).entries) [] s.declared.relations),
+        tt,
+      ),
     ),
   ),
 )
@@ -81,7 +85,8 @@ end_decided count s = (
 -- The faults after it are of a line.
 name_of_line : (s : LooseParts) → IfSome (name_fault s) IsOfLine
 name_of_line s =
-    of_names (unnamed_item s.declared.labels 0 s.items) (all_declared s.declared.labels [] s.declared.entries) (of_entries s.declared.labels [] s.declared.entries)
+    of_names (unnamed_item s.declared.labels 0 s.items) (all_declared s.declared.labels [] s.declared.entries)
+    (of_entries s.declared.labels [] s.declared.entries)
 
 end_of_line : (count : ℕ) (s : LooseParts) (e : TextError) → IsFirstFault (end_stages count s) e → IsOfLine e
 end_of_line count s e (inl (key, is, open_still)) = (count + 1, reason.Misplaced, is)
@@ -94,7 +99,8 @@ end_of_line count s e (inr (closed, inr (some, inr (none, inl (related, is, foun
 end_of_line count s e (inr (closed, inr (some, inr (none, inr (relations, never))))) = absurd never
 
 pub loose_or_fault : HaveAnswers → (text : List ℕ) → LooseTextOrFault text
-loose_or_fault answers text = elim (read_or_fault answers loose_reading (record { stages = value_decided; ends = end_decided; lines = end_of_line }) text) [
-  | inl (s, says, whole) ↦ inl (loose_of s, record { parts = s; lines = says; whole = whole; loose = refl })
-  | inr (line, why, has) ↦ inr (line, why, has)
-]
+loose_or_fault answers text =
+    elim (read_or_fault answers loose_reading (record { stages = value_decided; ends = end_decided; lines = end_of_line }) text) [
+      | inl (s, says, whole) ↦ inl (loose_of s, record { parts = s; lines = says; whole = whole; loose = refl })
+      | inr (line, why, has) ↦ inr (line, why, has)
+    ]

@@ -39,7 +39,8 @@ still [] ys n h = cc
 still (x ∷ xs) ys zero h = h
 still (x ∷ xs) ys (suc n) h = still xs ys n h
 
-raised : (xs : List Bool) (more fresh : Bool) (n : ℕ) → get_or (xs ++ fresh ∷ []) n false ≡ true → get_or (xs ++ (more || fresh) ∷ []) n false ≡ true
+raised : (xs : List Bool) (more fresh : Bool) (n : ℕ) → get_or (xs ++ fresh ∷ []) n false ≡ true
+    → get_or (xs ++ (more || fresh) ∷ []) n false ≡ true
 raised xs false fresh n h = h
 raised [] true fresh zero h = refl
 raised [] true fresh (suc n) h = h
@@ -72,12 +73,15 @@ known_still s t to (address.Bundle n) h = to n h
 known_still s t to (address.Byte at) h = h
 
 -- The same lines, labels, relations and data, and no less marked.
-kept : (s t : LooseParts) → IsSound s → ((n : ℕ) → IsMarked s n → IsMarked t n) → AllByRecursion (λ (l : ItemLine). IsListed l.item.insn) t.items
+kept : (s t : LooseParts) → IsSound s → ((n : ℕ) → IsMarked s n → IsMarked t n)
+    → AllByRecursion (λ (l : ItemLine). IsListed l.item.insn) t.items
     → t.declared ≡ s.declared → IsSound t
 kept s t h to listed same = record {
   listed = listed;
   labels = rw same (all_map (MayBeNamed s) (MayBeNamed t) (values_of s.declared.labels) (known_still s t to) h.labels);
-  relations = rw same (all_map (λ (l : RelationLine). IsMarked s l.bundle) (λ (l : RelationLine). IsMarked t l.bundle) s.declared.relations (λ l m. to l.bundle m) h.relations);
+  relations =
+      rw same (all_map (λ (l : RelationLine). IsMarked s l.bundle)
+      (λ (l : RelationLine). IsMarked t l.bundle) s.declared.relations (λ l m. to l.bundle m) h.relations);
   bytes = rw same h.bytes;
 }
 
@@ -86,7 +90,9 @@ abbrev labels_with : LooseParts → List ℕ → Address → Labels
 labels_with s name a = insert_entry (slice_cmp nat_cmp) s.declared.labels name a
 
 -- What a label names that stands here.
-here_known : (part : Section) (s t : LooseParts) → length s.declared.bytes ≤ DATA_LIMIT → (IsTrue (is_text part) → IsMarked t (length s.items)) → MayBeNamed t (address_in part (address.Bundle (length s.items)) s.declared.bytes)
+here_known : (part : Section) (s t : LooseParts) → length s.declared.bytes ≤ DATA_LIMIT
+    → (IsTrue (is_text part) → IsMarked t (length s.items)) → MayBeNamed t
+    (address_in part (address.Bundle (length s.items)) s.declared.bytes)
 here_known section.Text s t few marked = marked refl
 here_known section.Data s t few marked = few
 
@@ -97,29 +103,38 @@ with_declared s more declared = record { declared = declared; items = s.items; f
 kept_marks : (s : LooseParts) (more : Bool) (declared : TextParts) (n : ℕ) → IsMarked s n → IsMarked (with_declared s more declared) n
 kept_marks s more declared n h = raised (breaks s.items) more s.fresh n h
 
-kept_labels : (s : LooseParts) (more : Bool) (declared : TextParts) → IsSound s → AllByRecursion (MayBeNamed (with_declared s more declared)) (values_of s.declared.labels)
+kept_labels : (s : LooseParts) (more : Bool) (declared : TextParts) → IsSound s
+    → AllByRecursion (MayBeNamed (with_declared s more declared)) (values_of s.declared.labels)
 kept_labels s more declared h =
-    all_map (MayBeNamed s) (MayBeNamed (with_declared s more declared)) (values_of s.declared.labels) (known_still s (with_declared s more declared) (kept_marks s more declared)) h.labels
+    all_map (MayBeNamed s) (MayBeNamed (with_declared s more declared)) (values_of s.declared.labels)
+    (known_still s (with_declared s more declared) (kept_marks s more declared)) h.labels
 
-kept_relations : (s : LooseParts) (more : Bool) (declared : TextParts) → IsSound s → AllByRecursion (λ (l : RelationLine). IsMarked (with_declared s more declared) l.bundle) s.declared.relations
+kept_relations : (s : LooseParts) (more : Bool) (declared : TextParts) → IsSound s
+    → AllByRecursion (λ (l : RelationLine). IsMarked (with_declared s more declared) l.bundle) s.declared.relations
 kept_relations s more declared h =
-    all_map (λ (l : RelationLine). IsMarked s l.bundle) (λ (l : RelationLine). IsMarked (with_declared s more declared) l.bundle) s.declared.relations (λ l m. kept_marks s more declared l.bundle m) h.relations
+    all_map (λ (l : RelationLine). IsMarked s l.bundle) (λ (l : RelationLine). IsMarked (with_declared s more declared) l.bundle)
+    s.declared.relations (λ l m. kept_marks s more declared l.bundle m) h.relations
 
 -- A label more.
-label_sound : (s : LooseParts) (part : Section) (name : List ℕ) (declared : TextParts) → IsSound s → declared.labels ≡ labels_with s name (address_in part (address.Bundle (length s.items)) s.declared.bytes)
+label_sound : (s : LooseParts) (part : Section) (name : List ℕ) (declared : TextParts) → IsSound s
+    → declared.labels ≡ labels_with s name (address_in part (address.Bundle (length s.items)) s.declared.bytes)
     → declared.relations ≡ s.declared.relations → declared.bytes ≡ s.declared.bytes → IsSound (with_declared s (is_text part) declared)
 label_sound s part name declared h labels relations bytes =
     let t = with_declared s (is_text part) declared in
-    let known : MayBeNamed t (address_in part (address.Bundle (length s.items)) s.declared.bytes) = here_known part s t h.bytes (λ e. rw e (marked_next s.items)) in
+    let known : MayBeNamed t (address_in part (address.Bundle (length s.items)) s.declared.bytes) =
+    here_known part s t h.bytes (λ e. rw e (marked_next s.items)) in
     record {
       listed = h.listed;
-      labels = rw labels (kept_among (MayBeNamed t) s.declared.labels name (address_in part (address.Bundle (length s.items)) s.declared.bytes) (kept_labels s (is_text part) declared h) known);
+      labels =
+          rw labels (kept_among (MayBeNamed t) s.declared.labels name (address_in part (address.Bundle (length s.items)) s.declared.bytes)
+          (kept_labels s (is_text part) declared h) known);
       relations = rw relations (kept_relations s (is_text part) declared h);
       bytes = rw bytes h.bytes;
     }
 
 -- Nothing but data more.
-data_sound : (s : LooseParts) (declared : TextParts) → IsSound s → declared.labels ≡ s.declared.labels → declared.relations ≡ s.declared.relations → length declared.bytes ≤ DATA_LIMIT → IsSound (with_declared s false declared)
+data_sound : (s : LooseParts) (declared : TextParts) → IsSound s → declared.labels ≡ s.declared.labels
+    → declared.relations ≡ s.declared.relations → length declared.bytes ≤ DATA_LIMIT → IsSound (with_declared s false declared)
 data_sound s declared h labels relations few = record {
   listed = h.listed;
   labels = rw labels (kept_labels s false declared h);
@@ -128,7 +143,8 @@ data_sound s declared h labels relations few = record {
 }
 
 -- Relations more.
-relation_sound : (s : LooseParts) (declared : TextParts) (l : RelationLine) → IsSound s → l.bundle ≡ length s.items → declared.labels ≡ s.declared.labels → declared.relations ≡ s.declared.relations ++ l ∷ [] → declared.bytes ≡ s.declared.bytes
+relation_sound : (s : LooseParts) (declared : TextParts) (l : RelationLine) → IsSound s → l.bundle ≡ length s.items
+    → declared.labels ≡ s.declared.labels → declared.relations ≡ s.declared.relations ++ l ∷ [] → declared.bytes ≡ s.declared.bytes
     → IsSound (with_declared s true declared)
 relation_sound s declared l h next labels relations bytes =
     let t = with_declared s true declared in
@@ -136,19 +152,25 @@ relation_sound s declared l h next labels relations bytes =
     record {
       listed = h.listed;
       labels = rw labels (kept_labels s true declared h);
-      relations = rw relations (all_both (λ (r : RelationLine). IsMarked t r.bundle) s.declared.relations (l ∷ []) (kept_relations s true declared h) (marked, tt));
+      relations =
+          rw relations (all_both (λ (r : RelationLine). IsMarked t r.bundle) s.declared.relations (l ∷ [])
+          (kept_relations s true declared h) (marked, tt));
       bytes = rw bytes h.bytes;
     }
 
 -- An instruction more.
-slot_sound : (s : LooseParts) (l : ItemLine) → IsSound s → l.item.breaks ≡ s.fresh → IsListed l.item.insn → IsSound (record { declared = s.declared; items = s.items ++ l ∷ []; fresh = false })
+slot_sound : (s : LooseParts) (l : ItemLine) → IsSound s → l.item.breaks ≡ s.fresh → IsListed l.item.insn
+    → IsSound (record { declared = s.declared; items = s.items ++ l ∷ []; fresh = false })
 slot_sound s l h same listed =
     let t : LooseParts = record { declared = s.declared; items = s.items ++ l ∷ []; fresh = false } in
-    let grown : marks t ≡ marks s ++ false ∷ [] = ap (λ bs. bs ++ false ∷ []) (one_more s.items l ∙ ap (λ b. breaks s.items ++ b ∷ []) same) in
-    kept s t h (λ n m. rw grown (still (marks s) (false ∷ []) n m)) (all_both (λ (k : ItemLine). IsListed k.item.insn) s.items (l ∷ []) h.listed (listed, tt)) refl
+    let grown : marks t ≡ marks s ++ false ∷ [] =
+    ap (λ bs. bs ++ false ∷ []) (one_more s.items l ∙ ap (λ b. breaks s.items ++ b ∷ []) same) in
+    kept s t h (λ n m. rw grown (still (marks s) (false ∷ []) n m))
+    (all_both (λ (k : ItemLine). IsListed k.item.insn) s.items (l ∷ []) h.listed (listed, tt)) refl
 
 -- A stop after the last.
-listed_stopped : (lines : List ItemLine) → AllByRecursion (λ (l : ItemLine). IsListed l.item.insn) lines → AllByRecursion (λ (l : ItemLine). IsListed l.item.insn) (last_written lines)
+listed_stopped : (lines : List ItemLine) → AllByRecursion (λ (l : ItemLine). IsListed l.item.insn) lines
+    → AllByRecursion (λ (l : ItemLine). IsListed l.item.insn) (last_written lines)
 listed_stopped [] all = tt
 listed_stopped (l ∷ []) all = (all.0, tt)
 listed_stopped (l ∷ m ∷ ls) all = (all.0, listed_stopped (m ∷ ls) all.1)
@@ -162,7 +184,8 @@ stop_sound s h =
 longer : (bytes more : List ℕ) → length bytes + length more ≤ DATA_LIMIT → length (bytes ++ more) ≤ DATA_LIMIT
 longer bytes more h = rw (length-append bytes more) h
 
-sound_after : (s : LooseParts) (n : ℕ) (value : Line) → IsListedLine value → ArePassed (value_stages s value) → IsSound s → IsSound (after s n value)
+sound_after : (s : LooseParts) (n : ℕ) (value : Line) → IsListedLine value → ArePassed (value_stages s value) → IsSound s
+    → IsSound (after s n value)
 sound_after s n line.Empty listed passed h = data_sound s _ h refl refl h.bytes
 sound_after s n (line.Label name) listed passed h = label_sound s s.declared.section name _ h refl refl refl
 sound_after s n line.Text listed passed h = data_sound s _ h refl refl h.bytes
@@ -171,7 +194,8 @@ sound_after s n (line.Entry name) listed passed h = data_sound s _ h refl refl h
 sound_after s n (line.Relation predicates) listed passed h =
     relation_sound s _ (record { line = n; bundle = length s.items; predicates = predicates }) h refl refl refl refl
 sound_after s n line.Ignored listed passed h = data_sound s _ h refl refl h.bytes
-sound_after s n (line.Numbers size values) listed passed h = data_sound s _ h refl refl (longer s.declared.bytes (numbers_bytes size values) passed.1.1.1.0)
+sound_after s n (line.Numbers size values) listed passed h =
+    data_sound s _ h refl refl (longer s.declared.bytes (numbers_bytes size values) passed.1.1.1.0)
 sound_after s n (line.Skip count) listed passed h =
     let zeros : length {A = ℕ} (replicate count 0) ≡ count = length-replicate count 0 in
     data_sound s _ h refl refl (longer s.declared.bytes (replicate count 0) (rw zeros passed.1.1.1.0))
@@ -187,7 +211,8 @@ ok_is s t r a b = cc
 ok_or_err : (t : LooseParts) (e : TextError) (r : Result LooseParts TextError) → r ≡ Ok t → r ≡ Err e → ⊥
 ok_or_err t e r a b = cc
 
-comes_sound : (s : LooseParts) (n : ℕ) (lines : List (List ℕ)) (r : Result LooseParts TextError) (t : LooseParts) → IsSound s → r ≡ Ok t → ComesToBy loose_reading s n lines r → IsSound t
+comes_sound : (s : LooseParts) (n : ℕ) (lines : List (List ℕ)) (r : Result LooseParts TextError) (t : LooseParts) → IsSound s → r ≡ Ok t
+    → ComesToBy loose_reading s n lines r → IsSound t
 comes_sound s n [] r t h is comes = subst IsSound (ok_is s t r comes is) h
 comes_sound s n (line ∷ lines) r t h is (inl (why, refused, err)) = absurd (ok_or_err t _ r is err)
 comes_sound s n (line ∷ lines) r t h is (inr (value, (says, passed), rest)) =

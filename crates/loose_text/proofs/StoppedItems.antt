@@ -11,7 +11,8 @@ use Rattle.loose_text.specs.declared.item.ItemLine.{ItemLine}
 use Rattle.loose_text.specs.LooseParts.{items_of, last_written}
 
 -- It changes nothing of the plain packing.
-stopped_on : (current : List Wanted) (before : Item) (lines : List ItemLine) (more : List Item) → plain_on current before (items_of (last_written lines) ++ more) ≡ plain_on current before (items_of lines ++ more)
+stopped_on : (current : List Wanted) (before : Item) (lines : List ItemLine) (more : List Item)
+    → plain_on current before (items_of (last_written lines) ++ more) ≡ plain_on current before (items_of lines ++ more)
 stopped_on current before [] more = refl
 stopped_on current before (l ∷ []) more = by more
   where
@@ -19,10 +20,13 @@ stopped_on current before (l ∷ []) more = by more
     by [] = refl
     by (m ∷ ms) = refl
 stopped_on current before (l ∷ m ∷ ls) more =
-    ap (λ x. if joins current before l.item false then x else current ∷ plain_on (wanted_as l.item false ∷ []) l.item (items_of (last_written (m ∷ ls)) ++ more)) (stopped_on (current ++ wanted_as l.item false ∷ []) l.item (m ∷ ls) more)
-    ∙ ap (λ x. if joins current before l.item false then plain_on (current ++ wanted_as l.item false ∷ []) l.item (items_of (m ∷ ls) ++ more) else current ∷ x) (stopped_on (wanted_as l.item false ∷ []) l.item (m ∷ ls) more)
+    ap (λ x. if joins current before l.item false then x else current ∷ plain_on (wanted_as l.item false ∷ []) l.item
+    (items_of (last_written (m ∷ ls)) ++ more)) (stopped_on (current ++ wanted_as l.item false ∷ []) l.item (m ∷ ls) more)
+    ∙ ap (λ x. if joins current before l.item false then plain_on (current ++ wanted_as l.item false ∷ []) l.item
+    (items_of (m ∷ ls) ++ more) else current ∷ x) (stopped_on (wanted_as l.item false ∷ []) l.item (m ∷ ls) more)
 
-pub stopped_of : (lines : List ItemLine) (more : List Item) → plain_of (items_of (last_written lines) ++ more) ≡ plain_of (items_of lines ++ more)
+pub stopped_of : (lines : List ItemLine) (more : List Item) → plain_of (items_of (last_written lines) ++ more)
+    ≡ plain_of (items_of lines ++ more)
 stopped_of [] more = refl
 stopped_of (l ∷ []) more = by more
   where
@@ -43,7 +47,8 @@ none_stopped : (lines : List ItemLine) → items_of lines ≡ [] → items_of (l
 none_stopped [] h = refl
 none_stopped (l ∷ ls) h = cc
 
-pub stopped_packed : (lines : List ItemLine) (p : Option PlainPacking) → ArePacked (items_of lines) p → ArePacked (items_of (last_written lines)) p
+pub stopped_packed : (lines : List ItemLine) (p : Option PlainPacking) → ArePacked (items_of lines) p
+    → ArePacked (items_of (last_written lines)) p
 stopped_packed lines None h = none_stopped lines h
 stopped_packed lines (Some p) h = (
   record {
@@ -60,7 +65,8 @@ abbrev pub stopped_line : ItemLine → ItemLine
 stopped_line l =
     record { item = record { line = l.item.line; insn = l.item.insn; breaks = l.item.breaks; written = true }; target = l.target }
 
-pub stopped_is : (lines : List ItemLine) (n : ℕ) (l : ItemLine) → 1 ≤ length lines → n ≡ length lines - 1 → l ≡ get_or lines n l → set lines n (stopped_line l) ≡ last_written lines
+pub stopped_is : (lines : List ItemLine) (n : ℕ) (l : ItemLine) → 1 ≤ length lines → n ≡ length lines - 1 → l ≡ get_or lines n l
+    → set lines n (stopped_line l) ≡ last_written lines
 stopped_is [] n l some last is = absurd (omega (arith, some))
 stopped_is (k ∷ []) zero l some last is = ap (λ x. stopped_line x ∷ []) is
 stopped_is (k ∷ []) (suc n) l some last is = absurd (omega (arith, last))

@@ -66,10 +66,18 @@ separates s value = false
 -- What the lines say after one more, the n-th. What comes next in text is an instruction.
 abbrev pub after : LooseParts → ℕ → Line → LooseParts
 after s n (line.Slot draft stop) =
-    record { declared = s.declared; items = s.items ++ record { item = item_of s.fresh n draft stop; target = draft.target } ∷ []; fresh = false }
+    record {
+      declared = s.declared;
+      items = s.items ++ record { item = item_of s.fresh n draft stop; target = draft.target } ∷ [];
+      fresh = false;
+    }
 after s n line.Stop = record { declared = s.declared; items = last_written s.items; fresh = s.fresh }
 after s n value =
-    record { declared = after_outside s.declared (length s.items) n value; items = s.items; fresh = separates s.declared.section value || s.fresh }
+    record {
+      declared = after_outside s.declared (length s.items) n value;
+      items = s.items;
+      fresh = separates s.declared.section value || s.fresh;
+    }
 
 -- The number of a break or a nop fits a unit other than X.
 abbrev pub IsNarrow : Op → Type 0

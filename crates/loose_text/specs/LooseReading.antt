@@ -32,7 +32,14 @@ target_of labels (Some name) = address_of labels name
 -- The loose text that the lines say.
 abbrev pub loose_of : LooseParts → Loose
 loose_of s =
-    record { items = items_of s.items; targets = map (λ l. target_of s.declared.labels l.target) s.items; entries = or_none (all_declared s.declared.labels [] s.declared.entries); relations = all_related [] s.declared.relations; bytes = padded s.declared.bytes }
+    record {
+      items = items_of s.items;
+      targets = map (λ l. target_of s.declared.labels l.target) s.items;
+      entries = or_none (all_declared s.declared.labels [] s.declared.entries);
+      relations = all_related [] s.declared.relations;
+      bytes =
+          padded s.declared.bytes;
+    }
 
 -- What is looked for after the last line, in this order: a label of text without an instruction, that there are
 -- instructions, names, and relations. `count` lines were read.

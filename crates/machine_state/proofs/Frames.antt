@@ -31,7 +31,15 @@ low_field n above width low = ap (λ q. q % 2 ^ width) (field_of n (above + widt
 marked_low : (base pfs : ℕ) → marked_frame base (pfs % 2 ^ 38) ≡ marked_frame base pfs
 unfolding marked_frame
 marked_low base pfs =
-    rw (mod-mod-pow pfs 31 7, low_field pfs 24 7 7, low_field pfs 20 4 14, low_field pfs 13 7 18, low_field pfs 6 7 25, low_field pfs 0 6 32) refl
+    rw (
+      mod-mod-pow pfs 31 7,
+      low_field pfs 24 7 7,
+      low_field pfs 20 4 14,
+      low_field pfs 13 7 18,
+      low_field pfs 6 7 25,
+      low_field pfs 0 6 32,
+    ) refl
 
-pub return_fault_low : ReturnFaultIsThat → (limit base pfs : ℕ) → limit ≡ STACK_LIMIT → option_map kind_of (return_fault_within limit base (marked_frame base (pfs % 2 ^ 38))) ≡ return_fault base (marked_frame base pfs)
+pub return_fault_low : ReturnFaultIsThat → (limit base pfs : ℕ) → limit ≡ STACK_LIMIT
+    → option_map kind_of (return_fault_within limit base (marked_frame base (pfs % 2 ^ 38))) ≡ return_fault base (marked_frame base pfs)
 return_fault_low same limit base pfs e = rw (e, marked_low base pfs) (same base (marked_frame base pfs))

@@ -17,7 +17,8 @@ counted lc ec r = apply (written SetEc ec []) (apply (written SetLc lc []) r)
 abbrev unturned : Option ℕ → Option ℕ → Option Bool → Registers → Registers
 unturned lc ec p63 r = apply (written (SetPredicate (predicate_index (counted lc ec r).frame 63)) p63 []) (counted lc ec r)
 
-pub turned : (t : Turn) (r : Registers) → t.rotates ≡ true → put (SetFrame Renamed (rotated (unturned t.lc t.ec t.p63 r).frame)) (unturned t.lc t.ec t.p63 r) ≡ apply (turn_writes t r.frame) r
+pub turned : (t : Turn) (r : Registers) → t.rotates ≡ true → put (SetFrame Renamed (rotated (unturned t.lc t.ec t.p63 r).frame))
+    (unturned t.lc t.ec t.p63 r) ≡ apply (turn_writes t r.frame) r
 turned t r e = grind arith
 
 pub still : (t : Turn) (r : Registers) → t.rotates ≡ false → unturned t.lc t.ec t.p63 r ≡ apply (turn_writes t r.frame) r

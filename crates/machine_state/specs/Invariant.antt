@@ -7,7 +7,18 @@ use Rattle.machine_state.specs.Contents.{Contents}
 
 abbrev pub contents_of : Inside → Contents
 contents_of s = record {
-  registers = record { statics = s.statics; cells = s.stack.cells; frame = s.stack.frame; predicates = s.predicates; branches = s.branches; unat = s.unat; pfs = s.pfs; lc = s.lc; ec = s.ec };
+  registers =
+      record {
+        statics = s.statics;
+        cells = s.stack.cells;
+        frame = s.stack.frame;
+        predicates = s.predicates;
+        branches = s.branches;
+        unat = s.unat;
+        pfs = s.pfs;
+        lc = s.lc;
+        ec = s.ec;
+      };
   memory = record { bytes = s.data; alat = s.alat };
   range = s.stack.range;
 }

@@ -15,7 +15,8 @@ unfolding loaded
 loaded_there address at size bytes e = ap (λ k. bytes_at bytes k size) (sym (offset_of address at e))
 
 -- What is written at the offset of an address is what is stored.
-pub stored_there : (address at size x : ℕ) (bytes : List ℕ) → address ≡ data_base + at → with_bytes bytes at size x ≡ stored bytes address size x
+pub stored_there : (address at size x : ℕ) (bytes : List ℕ) → address ≡ data_base + at
+    → with_bytes bytes at size x ≡ stored bytes address size x
 unfolding stored
 stored_there address at size x bytes e = ap (λ k. with_bytes bytes k size x) (sym (offset_of address at e))
 
@@ -36,10 +37,12 @@ stored_whole address at size x len bytes old shown new e is same count written =
 -- The bytes that a store doesn't touch stay.
 pub others_stay : (bytes : List ℕ) (address size x : ℕ) → access_fault bytes address size ≡ None
     → (length (stored bytes address size x) ≡ length bytes)
-    × ((offset : ℕ) → (data_base + offset < address) ⊎ (address + size ≤ data_base + offset) → get_or (stored bytes address size x) offset 0 ≡ get_or bytes offset 0)
+    × ((offset : ℕ) → (data_base + offset < address) ⊎ (address + size ≤ data_base + offset)
+    → get_or (stored bytes address size x) offset 0 ≡ get_or bytes offset 0)
 unfolding stored
 others_stay bytes address size x h =
     let access = is_access bytes address size h in (
       length-with_bytes size (address - data_base) x bytes,
-      λ offset apart. other_byte size (address - data_base) x offset bytes (elim apart [ inl l ↦ inl (omega arith) | inr r ↦ inr (omega arith) ]),
+      λ offset apart. other_byte size (address - data_base) x offset bytes
+          (elim apart [ inl l ↦ inl (omega arith) | inr r ↦ inr (omega arith) ]),
     )

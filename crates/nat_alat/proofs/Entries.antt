@@ -23,13 +23,15 @@ entry_is_any [] key = refl
 entry_is_any (e ∷ es) key = simp (entry_is_any es key)
 
 -- With as many as its limit left the oldest goes.
-pub entered_when_full : (left es : List AlatEntry) (e : AlatEntry) → left ≡ invalidated es e.key → (length left == ALAT_LIMIT) ≡ true → drop 1 left ++ e ∷ [] ≡ entered es e
+pub entered_when_full : (left es : List AlatEntry) (e : AlatEntry) → left ≡ invalidated es e.key → (length left == ALAT_LIMIT) ≡ true
+    → drop 1 left ++ e ∷ [] ≡ entered es e
 unfolding entered
 entered_when_full left es e is full =
     let one : length left - (ALAT_LIMIT - 1) ≡ 1 = grind (arith, nat_tests) in
     rw (← is, one) refl
 
-pub entered_with_room : (left es : List AlatEntry) (e : AlatEntry) → left ≡ invalidated es e.key → length left ≤ ALAT_LIMIT → (length left == ALAT_LIMIT) ≡ false → left ++ e ∷ [] ≡ entered es e
+pub entered_with_room : (left es : List AlatEntry) (e : AlatEntry) → left ≡ invalidated es e.key → length left ≤ ALAT_LIMIT
+    → (length left == ALAT_LIMIT) ≡ false → left ++ e ∷ [] ≡ entered es e
 unfolding entered
 entered_with_room left es e is most room =
     let none : length left - (ALAT_LIMIT - 1) ≡ 0 = grind (arith, nat_tests) in

@@ -98,7 +98,8 @@ sum_fits n k word h e =
     let all : j + (k + 1) ≡ 64 = omega arith in
     let top : n / 2 ^ (k + 1) < 2 ^ j = shr_below n j (k + 1) (subst (λ i. n < 2 ^ i) (sym all) word) in
     let room : (n / 2 ^ (k + 1) + 1) * 2 ^ (k + 1) ≤ 2 ^ j * 2 ^ (k + 1) = mul-le-mul_right (2 ^ (k + 1)) (omega arith) in
-    let spread : (n / 2 ^ (k + 1) + 1) * 2 ^ (k + 1) ≡ n / 2 ^ (k + 1) * 2 ^ (k + 1) + 1 * 2 ^ (k + 1) = add-mul (n / 2 ^ (k + 1)) 1 (2 ^ (k + 1)) in
+    let spread : (n / 2 ^ (k + 1) + 1) * 2 ^ (k + 1) ≡ n / 2 ^ (k + 1) * 2 ^ (k + 1) + 1 * 2 ^ (k + 1) =
+    add-mul (n / 2 ^ (k + 1)) 1 (2 ^ (k + 1)) in
     let whole_word : 2 ^ j * 2 ^ (k + 1) ≡ 2 ^ 64 = sym (pow-add 2 j (k + 1)) ∙ ap (λ i. 2 ^ i) all in
     let swap : n / 2 ^ (k + 1) * 2 ^ (k + 1) ≡ 2 ^ (k + 1) * (n / 2 ^ (k + 1)) = mul_comm (n / 2 ^ (k + 1)) (2 ^ (k + 1)) in
     let double = pow_more 2 k in

@@ -28,7 +28,13 @@ with_bytes_split (suc n) at x bytes h =
     let rest = with_bytes_split n (suc at) (x / 256) (set bytes at (x % 256)) (rw (length-set bytes at (x % 256)) (omega arith)) in
     let e : at + suc n ≡ suc at + n = omega arith in
     rest
-    ∙ rw (take-suc-set bytes at (x % 256) (omega arith), drop-set-lt (suc at + n) bytes at (x % 256) (omega arith), append_assoc, e, bytes_of_rest 0 n x) refl
+    ∙ rw (
+      take-suc-set bytes at (x % 256) (omega arith),
+      drop-set-lt (suc at + n) bytes at (x % 256) (omega arith),
+      append_assoc,
+      e,
+      bytes_of_rest 0 n x,
+    ) refl
 
 -- The bytes of a number are those of its low bits.
 low_bits : (n at x : ℕ) (bytes : List ℕ) → with_bytes bytes at n (x % 2 ^ (8 * n)) ≡ with_bytes bytes at n x
@@ -45,7 +51,8 @@ pub written_there : (n at x y : ℕ) (bytes new : List ℕ) → at + n ≤ lengt
     → new ≡ bytes_low_first 0 n y ++ drop n (take (length bytes - at) (drop at bytes))
     → put_mid at (length bytes - at) bytes new ≡ with_bytes bytes at n x
 written_there n at x y bytes new h low is =
-    let end : drop (length bytes - at) (drop at bytes) ≡ [] = drop_all (length bytes - at) (drop at bytes) (rw (length-drop at bytes) (omega arith)) in
+    let end : drop (length bytes - at) (drop at bytes) ≡ [] =
+    drop_all (length bytes - at) (drop at bytes) (rw (length-drop at bytes) (omega arith)) in
     let front : put_mid at (length bytes - at) bytes new ≡ take at bytes ++ new =
     ap (λ l. take at bytes ++ (new ++ l)) end ∙ ap (λ l. take at bytes ++ l) (append-nil new) in
     front

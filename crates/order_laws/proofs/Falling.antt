@@ -42,7 +42,8 @@ none_before_first a (inr h) = omega (arith, h.1)
 pub place_cases : (a b : Place) → IsBefore a b ⊎ ((a ≡ b) ⊎ IsBefore b a)
 place_cases a b = of (cases_lt a.bundle b.bundle) (cases_eq a.bundle b.bundle) (cases_lt a.slot b.slot) (cases_eq a.slot b.slot)
   where
-    of : (a.bundle < b.bundle) ⊎ (b.bundle ≤ a.bundle) → (a.bundle ≡ b.bundle) ⊎ (a.bundle ≡ b.bundle → ⊥) → (a.slot < b.slot) ⊎ (b.slot ≤ a.slot) → (a.slot ≡ b.slot) ⊎ (a.slot ≡ b.slot → ⊥) → IsBefore a b ⊎ ((a ≡ b) ⊎ IsBefore b a)
+    of : (a.bundle < b.bundle) ⊎ (b.bundle ≤ a.bundle) → (a.bundle ≡ b.bundle) ⊎ (a.bundle ≡ b.bundle → ⊥)
+        → (a.slot < b.slot) ⊎ (b.slot ≤ a.slot) → (a.slot ≡ b.slot) ⊎ (a.slot ≡ b.slot → ⊥) → IsBefore a b ⊎ ((a ≡ b) ⊎ IsBefore b a)
     of (inl less) same low equal = inl (inl less)
     of (inr more) (inr apart) low equal = inr (inr (inl (omega arith)))
     of (inr more) (inl same) (inl low) equal = inl (inr (same, low))
@@ -82,14 +83,17 @@ program_fall p i j e = of (insn_at p.bundles i) refl e.leads
   where
     of : (o : Option Insn) → insn_at p.bundles i ≡ o → edge_of p.bundles i o Falls ≡ Some j → IsFall (over_program p) i j
     of None here h = absurd cc
-    of (Some insn) here h = let c = chosen (may_fall insn) (next_of p.bundles i) j h in record { insn = insn; here = here; may = c.0; next = c.1 }
+    of (Some insn) here h =
+        let c = chosen (may_fall insn) (next_of p.bundles i) j h in record { insn = insn; here = here; may = c.0; next = c.1 }
 
 row_fall : (sequence : InsnSequence) (i j : Place) → HasSequenceEdge sequence i Falls j → IsFall (over_sequence sequence) i j
 row_fall sequence i j e = of (sequence_insn sequence.insns i) refl e.leads
   where
-    of : (o : Option Insn) → sequence_insn sequence.insns i ≡ o → sequence_end_of sequence.insns i o Falls ≡ Some j → IsFall (over_sequence sequence) i j
+    of : (o : Option Insn) → sequence_insn sequence.insns i ≡ o → sequence_end_of sequence.insns i o Falls ≡ Some j
+        → IsFall (over_sequence sequence) i j
     of None here h = absurd cc
-    of (Some insn) here h = let c = chosen (may_fall insn) (sequence_next sequence.insns i) j h in record { insn = insn; here = here; may = c.0; next = c.1 }
+    of (Some insn) here h =
+        let c = chosen (may_fall insn) (sequence_next sequence.insns i) j h in record { insn = insn; here = here; may = c.0; next = c.1 }
 
 -- What a fall says of where it begins.
 pub fall_is : (g : Graph) (i j : Place) → IsEdgeIn g i Falls j → IsFall g i j
@@ -97,11 +101,13 @@ fall_is (over_program p) i j e = program_fall p i j e
 fall_is (over_sequence sequence) i j e = row_fall sequence i j e
 
 -- The place of the next instruction of a sequence.
-sequence_next_is : (insns : List Insn) (i j : Place) → sequence_next insns i ≡ Some j → (i.bundle + 1 < length insns) × (first_of (i.bundle + 1) ≡ j)
+sequence_next_is : (insns : List Insn) (i j : Place) → sequence_next insns i ≡ Some j
+    → (i.bundle + 1 < length insns) × (first_of (i.bundle + 1) ≡ j)
 unfolding sequence_next
 sequence_next_is insns i j e = of (nat_lt (i.bundle + 1) (length insns)) refl e
   where
-    of : (b : Bool) → nat_lt (i.bundle + 1) (length insns) ≡ b → cond b (Some (first_of (i.bundle + 1))) None ≡ Some j → (i.bundle + 1 < length insns) × (first_of (i.bundle + 1) ≡ j)
+    of : (b : Bool) → nat_lt (i.bundle + 1) (length insns) ≡ b → cond b (Some (first_of (i.bundle + 1))) None ≡ Some j
+        → (i.bundle + 1 < length insns) × (first_of (i.bundle + 1) ≡ j)
     of true t h = (grind (arith, nat_tests), same_Some _ _ h)
     of false t h = absurd cc
 
@@ -139,7 +145,8 @@ pub slot_below : (g : Graph) (i : Place) → IsPlaceIn g i → i.slot < 3
 slot_below (over_program p) i is = slot_small p.bundles i is
 slot_below (over_sequence sequence) i is = let zero = row_slot sequence.insns i is in omega (arith, zero)
 
-program_before : (bundles : List Bundle) (a b next : Place) → IsPlaceOf bundles a → IsPlaceOf bundles b → next_of bundles a ≡ Some next → next_of bundles b ≡ Some next → a ≡ b
+program_before : (bundles : List Bundle) (a b next : Place) → IsPlaceOf bundles a → IsPlaceOf bundles b → next_of bundles a ≡ Some next
+    → next_of bundles b ≡ Some next → a ≡ b
 program_before bundles a b next is_a is_b e f = of (place_cases a b)
   where
     of_a : IsNext bundles a next
@@ -163,7 +170,8 @@ same_before (over_sequence sequence) a b next is_a is_b e f =
     same_place a b (omega (arith, bundle)) (row_slot sequence.insns a is_a ∙ sym (row_slot sequence.insns b is_b))
 
 -- Control falls from a place where it may to the next one.
-pub fall_edge : (g : Graph) (i j : Place) (insn : Insn) → insn_in g i ≡ Some insn → may_fall insn ≡ true → next_in g i ≡ Some j → IsEdgeIn g i Falls j
+pub fall_edge : (g : Graph) (i j : Place) (insn : Insn) → insn_in g i ≡ Some insn → may_fall insn ≡ true → next_in g i ≡ Some j
+    → IsEdgeIn g i Falls j
 unfolding edge_end
 fall_edge (over_program p) i j insn here may next = record {
   inside = subst IsSome (sym here) refl;
@@ -172,7 +180,9 @@ fall_edge (over_program p) i j insn here may next = record {
 }
 fall_edge (over_sequence sequence) i j insn here may next = record {
   inside = subst IsSome (sym here) refl;
-  leads = ap (λ (o : Option Insn). sequence_end_of sequence.insns i o Falls) here ∙ ap (λ (b : Bool). cond b (sequence_next sequence.insns i) None) may ∙ next;
+  leads =
+      ap (λ (o : Option Insn). sequence_end_of sequence.insns i o Falls) here
+      ∙ ap (λ (b : Bool). cond b (sequence_next sequence.insns i) None) may ∙ next;
   lands = next_place (over_sequence sequence) i j next;
 }
 
@@ -199,26 +209,31 @@ pub record ComesFrom (g : Graph) (has_stop : Place → Bool) (w : Walk) : Type 0
   pub group : group_since has_stop w ≡ end_of before ∷ group_since has_stop before
 
 -- The last step of such a walk was a fall within the group.
-pub comes_from : (g : Graph) (has_stop : Place → Bool) (w : Walk) (i : Place) → IsWalkIn g w → Contains (group_since has_stop w) i → ComesFrom g has_stop w
+pub comes_from : (g : Graph) (has_stop : Place → Bool) (w : Walk) (i : Place) → IsWalkIn g w → Contains (group_since has_stop w) i
+    → ComesFrom g has_stop w
 comes_from g has_stop (begins bundle) i is c = absurd (not_in_none i c)
 comes_from g has_stop (goes_on w Taken place) i is c = absurd (not_in_none i c)
 comes_from g has_stop (goes_on w Falls place) i is c = by_stop (has_stop (end_of w)) refl c
   where
-    by_stop : (s : Bool) → has_stop (end_of w) ≡ s → Contains (cond s [] (end_of w ∷ group_since has_stop w)) i → ComesFrom g has_stop (goes_on w Falls place)
+    by_stop : (s : Bool) → has_stop (end_of w) ≡ s → Contains (cond s [] (end_of w ∷ group_since has_stop w)) i
+        → ComesFrom g has_stop (goes_on w Falls place)
     by_stop true e d = absurd (not_in_none i d)
     by_stop false e d = record { before = w; walks = is.0; edge = is.1; unstopped = e; facts = refl; group = rw e refl }
 
 -- A walk goes on by a fall within its group.
-pub falls_group : (has_stop : Place → Bool) (w : Walk) (place : Place) → has_stop (end_of w) ≡ false → group_since has_stop (goes_on w Falls place) ≡ end_of w ∷ group_since has_stop w
+pub falls_group : (has_stop : Place → Bool) (w : Walk) (place : Place) → has_stop (end_of w) ≡ false
+    → group_since has_stop (goes_on w Falls place) ≡ end_of w ∷ group_since has_stop w
 falls_group has_stop w place e = rw e refl
 
 -- The earlier places of a walk's group come before its last one.
-pub group_before : (g : Graph) (has_stop : Place → Bool) (w : Walk) (i : Place) → IsWalkIn g w → Contains (group_since has_stop w) i → IsBefore i (end_of w)
+pub group_before : (g : Graph) (has_stop : Place → Bool) (w : Walk) (i : Place) → IsWalkIn g w → Contains (group_since has_stop w) i
+    → IsBefore i (end_of w)
 group_before g has_stop (begins bundle) i is c = absurd (not_in_none i c)
 group_before g has_stop (goes_on w Taken place) i is c = absurd (not_in_none i c)
 group_before g has_stop (goes_on w Falls place) i is c = by_stop (has_stop (end_of w)) c (λ d. group_before g has_stop w i is.0 d)
   where
-    by_stop : (s : Bool) → Contains (cond s [] (end_of w ∷ group_since has_stop w)) i → (Contains (group_since has_stop w) i → IsBefore i (end_of w)) → IsBefore i place
+    by_stop : (s : Bool) → Contains (cond s [] (end_of w ∷ group_since has_stop w)) i
+        → (Contains (group_since has_stop w) i → IsBefore i (end_of w)) → IsBefore i place
     by_stop true d again = absurd (not_in_none i d)
     by_stop false d again = of (cases_in (end_of w) i (group_since has_stop w) d)
       where

@@ -60,7 +60,8 @@ begun_on p s w known = record {
 }
 
 -- An `alloc` that falls off does nothing.
-settled_allocated : (new : FrameShape) (n : Option Place) (m : Memory) (way : NextWay) (o : Outcome) → IsAllocated new o → IsAllocated new (settled n m way o)
+settled_allocated : (new : FrameShape) (n : Option Place) (m : Memory) (way : NextWay) (o : Outcome) → IsAllocated new o
+    → IsAllocated new (settled n m way o)
 settled_allocated new None m next.Falls o h = record { spills = refl; ways = inl refl }
 settled_allocated new n m way o h = h
 
@@ -106,7 +107,8 @@ each_from_mem P Q [] h f = tt
 each_from_mem P Q (x ∷ xs) h f = (f x (inl refl) h.0, each_from_mem P Q xs h.1 (λ y m k. f y (inr m) k))
 
 -- An `alloc` in first place.
-module _ (p : Program) (program : IsProgram p) (s : State) (w : Walk) (known : IsKnown p s w) (j : Insn) (at : insn_at p.bundles s.place ≡ Some j) (al : is_alloc (insn_action j) ≡ true) where
+module _ (p : Program) (program : IsProgram p) (s : State) (w : Walk) (known : IsKnown p s w) (j : Insn)
+    (at : insn_at p.bundles s.place ≡ Some j) (al : is_alloc (insn_action j) ≡ true) where
   abbrev R : Registers
   R = s.registers
 
@@ -130,7 +132,8 @@ module _ (p : Program) (program : IsProgram p) (s : State) (w : Walk) (known : I
   pub alloc_step : seq_step p s ≡ step_by p s O O.next
   alloc_step = step_here p s j at
 
-  settled_covers : (n : Option Place) (m : Memory) (way : NextWay) (o : Outcome) → Each (IsCovered j.qp (insn_action j) R) o.writes → Each (IsCovered j.qp (insn_action j) R) (settled n m way o).writes
+  settled_covers : (n : Option Place) (m : Memory) (way : NextWay) (o : Outcome) → Each (IsCovered j.qp (insn_action j) R) o.writes
+      → Each (IsCovered j.qp (insn_action j) R) (settled n m way o).writes
   settled_covers None m next.Falls o h = tt
   settled_covers n m way o h = h
 
@@ -138,7 +141,8 @@ module _ (p : Program) (program : IsProgram p) (s : State) (w : Walk) (known : I
   covers =
       let e = effect (site p s.place.bundle) j R s.memory R.unat in
       let f = known.state.registers.frame in
-      settled_covers (next_of p.bundles s.place) s.memory e.next e (each_of (IsCovered j.qp (insn_action j) R) e.writes (covered (site p s.place.bundle) j R s.memory R.unat f.predicates))
+      settled_covers (next_of p.bundles s.place) s.memory e.next e
+      (each_of (IsCovered j.qp (insn_action j) R) e.writes (covered (site p s.place.bundle) j R s.memory R.unat f.predicates))
 
   module _ (d : Spot) (c : Cell) (writes : O.writes ≡ SetFrame Resized New ∷ set_spot d c []) (falls : O.next ≡ next.Falls) where
     abbrev Ws : List RegisterWrite
@@ -151,7 +155,10 @@ module _ (p : Program) (program : IsProgram p) (s : State) (w : Walk) (known : I
     new_frame =
         let kept = keeps_state p s program known.state in
         let by : seq_step p s ≡ step_by p s O next.Falls = alloc_step ∙ ap (step_by p s O) falls in
-        let frame : (registers_after O R).frame ≡ New = ap (λ l. (registers_after (record O { writes = l }) R).frame) writes ∙ ap (λ q. (registers_after (record { writes = SetFrame Resized New ∷ Ws; memory = O.memory; spills = q; next = O.next }) R).frame) may.spills ∙ set_spot_frame d c Base in
+        let frame : (registers_after O R).frame ≡ New =
+        ap (λ l. (registers_after (record O { writes = l }) R).frame) writes
+        ∙ ap (λ q. (registers_after (record { writes = SetFrame Resized New ∷ Ws; memory = O.memory; spills = q; next = O.next })
+        R).frame) may.spills ∙ set_spot_frame d c Base in
         let f = kept.registers.frame in
         subst IsFrame (ap (λ (x : Step). x.state.registers.frame) by ∙ frame) f
 
@@ -221,12 +228,15 @@ module _ (p : Program) (program : IsProgram p) (s : State) (w : Walk) (known : I
       unat = inl refl;
     }
 
-  way_by : (O.writes ≡ []) ⊎ ResizesFirst New O → IsGathering p (s.place ∷ []) (apply (frame_ahead O.writes) R) (after_frame O.writes) R.unat
+  way_by : (O.writes ≡ []) ⊎ ResizesFirst New O → IsGathering p (s.place ∷ []) (apply (frame_ahead O.writes) R)
+      (after_frame O.writes) R.unat
   way_by (inl e) =
       let r = known.state.registers in
       subst (λ l. IsGathering p (s.place ∷ []) (apply (frame_ahead l) R) (after_frame l) R.unat) (sym e)
       (record { frame = r.frame; cells = r.cell_count; origins = tt; fits = tt; inside = tt; unat = inl refl })
-  way_by (inr z) = subst (λ l. IsGathering p (s.place ∷ []) (apply (frame_ahead l) R) (after_frame l) R.unat) (sym z.writes) (resized_way z.target z.cell z.writes z.falls)
+  way_by (inr z) =
+      subst (λ l. IsGathering p (s.place ∷ []) (apply (frame_ahead l) R) (after_frame l) R.unat) (sym z.writes)
+      (resized_way z.target z.cell z.writes z.falls)
 
   unat_stays : unat_after O.spills R.unat ≡ R.unat
   unat_stays = ap (λ q. unat_after q R.unat) may.spills
@@ -249,7 +259,9 @@ module _ (p : Program) (program : IsProgram p) (s : State) (w : Walk) (known : I
 
   pub alloc_joins : Joins p (gathered_from s) [] O (gathers true (gathered_from s) O)
   alloc_joins = record {
-    way = λ q. subst (IsGathering p (s.place ∷ []) (apply (frame_ahead O.writes) R) (after_frame O.writes)) (sym unat_stays) (way_by may.ways);
+    way =
+        λ q. subst (IsGathering p (s.place ∷ []) (apply (frame_ahead O.writes) R) (after_frame O.writes)) (sym unat_stays)
+        (way_by may.ways);
     state = λ q. ap (λ r. record { registers = r; memory = O.memory; place = q })
         (ap (λ k. registers_after (record O { spills = k }) R) may.spills
         ∙ sym (made_in_turn O.writes)
@@ -265,25 +277,35 @@ module _ (p : Program) (program : IsProgram p) (s : State) (w : Walk) (known : I
       (view_plain j R R (no_branch (insn_action j) al))
 
 -- A whole group from its start.
-pub whole : (p : Program) → IsProgram p → HasNoViolation p → (code : List ℕ) (most : ℕ) (s : State) (w : Walk) → IsKnown p s w → ordered code (gathered_within (suc most) p true (gathered_from s)) ≡ group_within (suc most) p s
+pub whole : (p : Program) → IsProgram p → HasNoViolation p → (code : List ℕ) (most : ℕ) (s : State) (w : Walk) → IsKnown p s w
+    → ordered code (gathered_within (suc most) p true (gathered_from s)) ≡ group_within (suc most) p s
 whole p program free code most s w known = go (insn_here p s known.state.place)
   where
-    go : (j : Insn) × (insn_at p.bundles s.place ≡ Some j) → ordered code (gathered_within (suc most) p true (gathered_from s)) ≡ group_within (suc most) p s
+    go : (j : Insn) × (insn_at p.bundles s.place ≡ Some j) → ordered code (gathered_within (suc most) p true (gathered_from s))
+        ≡ group_within (suc most) p s
     go (j, at) = ap (From p code most true (gathered_from s)) at ∙ by_action (is_alloc (insn_action j)) refl
       where
-        by_action : (b : Bool) → is_alloc (insn_action j) ≡ b → From p code most true (gathered_from s) (Some j) ≡ added [] (group_within (suc most) p s)
+        by_action : (b : Bool) → is_alloc (insn_action j) ≡ b → From p code most true (gathered_from s) (Some j) ≡ added []
+            (group_within (suc most) p s)
         by_action false e =
             ap (λ b. At b (slot_outcome p (gathered_from s) (Some j))) e
-            ∙ slot_is p program code most (rest_is p program free code most) false (gathered_from s) [] w (begun_on p s w known) (slot_outcome p (gathered_from s) (Some j))
-            (plain_step p program free (gathered_from s) [] w (begun_on p s w known) j at e) (plain_joins p program free (gathered_from s) [] w (begun_on p s w known) j at e)
+            ∙ slot_is p program code most (rest_is p program free code most) false (gathered_from s) [] w (begun_on p s w known)
+            (slot_outcome p (gathered_from s) (Some j))
+            (plain_step p program free (gathered_from s) [] w (begun_on p s w known) j at e)
+            (plain_joins p program free (gathered_from s) [] w (begun_on p s w known) j at e)
           where
             At : Bool → Outcome → Group
-            At b o = ordered code (gathered_by p b (gathered_from s) o o.next (gathered_within most p false (gathers b (gathered_from s) o (place_after s.place (next_of p.bundles s.place)))))
+            At b o =
+                ordered code (gathered_by p b (gathered_from s) o o.next
+                (gathered_within most p false (gathers b (gathered_from s) o (place_after s.place (next_of p.bundles s.place)))))
         by_action true e =
             ap (λ b. At b (slot_outcome p (gathered_from s) (Some j))) e
             ∙ ap (At true) (alloc_outcome p program s w known j at e)
-            ∙ slot_is p program code most (rest_is p program free code most) true (gathered_from s) [] w (begun_on p s w known) (outcome_of p s j)
+            ∙ slot_is p program code most (rest_is p program free code most) true (gathered_from s) [] w (begun_on p s w known)
+            (outcome_of p s j)
             (alloc_step p program s w known j at e) (alloc_joins p program s w known j at e)
           where
             At : Bool → Outcome → Group
-            At b o = ordered code (gathered_by p b (gathered_from s) o o.next (gathered_within most p false (gathers b (gathered_from s) o (place_after s.place (next_of p.bundles s.place)))))
+            At b o =
+                ordered code (gathered_by p b (gathered_from s) o o.next
+                (gathered_within most p false (gathers b (gathered_from s) o (place_after s.place (next_of p.bundles s.place)))))

@@ -31,7 +31,8 @@ with_slot p begins g insn to = gathers (begins && allocates insn) g (slot_outcom
 -- where there are none, and of each slot in front of others of which it holds.
 module _ (p : Program) (P : Bool → Gathered → List GatheredSlot → Gathered → Type 0)
     (none : (begins : Bool) (g : Gathered) → P begins g [] g)
-    (one_more : (begins : Bool) (g : Gathered) (insn : Option Insn) (to : Place) (rest : List GatheredSlot) (all : Gathered) → IsOn (slot_outcome p g insn).next
+    (one_more : (begins : Bool) (g : Gathered) (insn : Option Insn) (to : Place) (rest : List GatheredSlot) (all : Gathered)
+    → IsOn (slot_outcome p g insn).next
     → P false (with_slot p begins g insn to) rest all → P begins g (slot_here g insn ++ rest) all) where
   pub by_slots : (most : ℕ) (begins : Bool) (g : Gathered) → P begins g (slots_within most p begins g) (gathered_within most p begins g).all
   by_slots zero begins g = none begins g
@@ -63,10 +64,12 @@ module _ (p : Program) (P : Bool → Gathered → List GatheredSlot → Gathered
       by_stop later true t on = rw t (last to on)
       by_stop later false t on = rw t (one_more begins g insn to rest after.all on later)
 
-      by_way : Later → (way : Next) → o.next ≡ way → P begins g (and_slot p g insn way rest) (gathered_by p (begins && allocates insn) g o way after).all
+      by_way : Later → (way : Next) → o.next ≡ way → P begins g (and_slot p g insn way rest)
+          (gathered_by p (begins && allocates insn) g o way after).all
       by_way later Falls w = by_stop later (is_stopped p.bundles g.place) refl (subst IsOn (sym w) tt)
       by_way later (Goes bundle) w =
-          subst (λ l. P begins g l (with_slot p begins g insn (first_of bundle))) (append-nil (slot_here g insn)) (last (first_of bundle) (subst IsOn (sym w) tt))
+          subst (λ l. P begins g l (with_slot p begins g insn (first_of bundle))) (append-nil (slot_here g insn))
+          (last (first_of bundle) (subst IsOn (sym w) tt))
       by_way later (Breaks imm) w = none begins g
       by_way later (Faults kind) w = none begins g
 
@@ -87,17 +90,33 @@ none_there p false g to = record { base = refl; frames = refl; writes = append-n
 
 and_then : (g k h : Gathered) → IsSame g k → IsSame k h → IsSame g h
 and_then g k h s t =
-    record { base = t.base ∙ s.base; frames = t.frames ∙ s.frames; writes = t.writes ∙ s.writes; memory = t.memory ∙ s.memory; unat = t.unat ∙ s.unat }
+    record {
+      base = t.base ∙ s.base;
+      frames = t.frames ∙ s.frames;
+      writes = t.writes ∙ s.writes;
+      memory = t.memory ∙ s.memory;
+      unat = t.unat ∙ s.unat;
+    }
 
-leads_from : (p : Program) (begins : Bool) (g k h : Gathered) (xs : List GatheredSlot) → IsSame g k → Leads p false k xs h → Leads p begins g xs h
+leads_from : (p : Program) (begins : Bool) (g k h : Gathered) (xs : List GatheredSlot) → IsSame g k → Leads p false k xs h
+    → Leads p begins g xs h
 leads_from p begins g k h [] s l = and_then g k h s l
-leads_from p begins g k h (x ∷ xs) s l =
-    (record { same = and_then g k x.before s l.0.same; first = l.0.first; cause = λ e. absurd (true≢false (let c = l.0.cause e in sym c.0)); to = l.0.to }, l.1)
+leads_from p begins g k h (x ∷ xs) s l = (
+  record {
+    same = and_then g k x.before s l.0.same;
+    first = l.0.first;
+    cause = λ e. absurd (true≢false (let c = l.0.cause e in sym c.0));
+    to = l.0.to;
+  },
+  l.1,
+)
 
-leads_on : (p : Program) (begins : Bool) (g : Gathered) (insn : Option Insn) (to : Place) (rest : List GatheredSlot) (all : Gathered) → IsOn (slot_outcome p g insn).next
+leads_on : (p : Program) (begins : Bool) (g : Gathered) (insn : Option Insn) (to : Place) (rest : List GatheredSlot) (all : Gathered)
+    → IsOn (slot_outcome p g insn).next
     → Leads p false (with_slot p begins g insn to) rest all → Leads p begins g (slot_here g insn ++ rest) all
 leads_on p begins g None to rest all on l = leads_from p begins g (with_slot p begins g None to) all rest (none_there p begins g to) l
-leads_on p begins g (Some insn) to rest all on l = (record { same = same g; first = begins && allocates (Some insn); cause = and_parts begins (allocates (Some insn)); to = to }, l)
+leads_on p begins g (Some insn) to rest all on l =
+    (record { same = same g; first = begins && allocates (Some insn); cause = and_parts begins (allocates (Some insn)); to = to }, l)
 
 pub slots_lead : SlotsLead
 slots_lead p s = by_slots p (Leads p) (λ begins g. same g) (leads_on p) RUN_LIMIT true (gathered_from s)

@@ -103,7 +103,8 @@ ClashesWithNone p past j s =
     → IsChange a.kind → ¬ IsExcepted a.kind b.kind → holds s b.guard ≡ true
     → (holds s a.guard ≡ true) ⊎ MayBeWrittenSince p past i a.guard → ⊥
 
-pub no_clash : (p : Program) (past : List Place) (base s : Registers) (j : Insn) (a b : Access) → ClashesWithNone p past j s → EarlierAccess p past base s a → HasAccess j b → a.resource ≡ b.resource
+pub no_clash : (p : Program) (past : List Place) (base s : Registers) (j : Insn) (a b : Access) → ClashesWithNone p past j s
+    → EarlierAccess p past base s a → HasAccess j b → a.resource ≡ b.resource
     → IsChange a.kind → ¬ IsExcepted a.kind b.kind → holds s b.guard ≡ true → ⊥
 no_clash p past base s j a b clean t h e k x g = go t.alive
   where
@@ -155,16 +156,19 @@ stacked_of : (f : FrameShape) (r n : ℕ) → spot f r ≡ Some (Stacked n) → 
 unfolding spot
 stacked_of f r n e = go (is_stacked r) e
   where
-    go : (b : Bool) → (if b then (if nat_lt (r - 32) f.sof then Some (Stacked (f.base + frame_index f (r - 32))) else None) else Some (Static r)) ≡ Some (Stacked n) → b ≡ true
+    go : (b : Bool) → (if b then (if nat_lt (r - 32) f.sof then Some (Stacked (f.base + frame_index f (r - 32))) else None) else Some
+        (Static r)) ≡ Some (Stacked n) → b ≡ true
     go true e = refl
     go false e = absurd (cc)
 
-module _ (p : Program) (past : List Place) (base : Registers) (ws : List RegisterWrite) (u : ℕ) (j : Insn) (way : IsGathering p past base ws u) (clean : ClashesWithNone p past j (joined base ws u)) where
+module _ (p : Program) (past : List Place) (base : Registers) (ws : List RegisterWrite) (u : ℕ) (j : Insn)
+    (way : IsGathering p past base ws u) (clean : ClashesWithNone p past j (joined base ws u)) where
   abbrev S : Registers
   S = joined base ws u
 
   -- What the slot touches by a strict access under a guard that is 1, no earlier write has touched.
-  pub no_touch : (b : Access) → HasAccess j b → IsStrict b.kind → IsInRange b.resource → holds S b.guard ≡ true → (t : Location) → location_of base.frame b.resource ≡ Some t → (w : RegisterWrite) → Mem w ws → location w ≡ t → ⊥
+  pub no_touch : (b : Access) → HasAccess j b → IsStrict b.kind → IsInRange b.resource → holds S b.guard ≡ true → (t : Location)
+      → location_of base.frame b.resource ≡ Some t → (w : RegisterWrite) → Mem w ws → location w ≡ t → ⊥
   no_touch b h k r g t e w m q =
       let o : EarlierWrite p past base S w = each_mem (EarlierWrite p past base S) w ws way.origins m in
       no_clash p past base S j o.access b clean o.trace h
@@ -172,7 +176,9 @@ module _ (p : Program) (past : List Place) (base : Registers) (ws : List Registe
       (change_of o.access.kind o.plain) (strict_clash o.access.kind b.kind o.plain k) g
 
   -- A strict access under a guard that is 1 finds what the start had.
-  same_plain : (b : Access) → HasAccess j b → IsStrict b.kind → IsInRange b.resource → holds S b.guard ≡ true → (t : Location) → location_of base.frame b.resource ≡ Some t → ((w : RegisterWrite) → Touches t w → location w ≡ t) → SameAt t S (record base { unat = u })
+  same_plain : (b : Access) → HasAccess j b → IsStrict b.kind → IsInRange b.resource → holds S b.guard ≡ true → (t : Location)
+      → location_of base.frame b.resource ≡ Some t → ((w : RegisterWrite) → Touches t w → location w ≡ t)
+      → SameAt t S (record base { unat = u })
   same_plain b h k r g t e d = go (same_apply t ws (record base { unat = u }))
     where
       go : TouchedBy t ws ⊎ SameAt t S (record base { unat = u }) → SameAt t S (record base { unat = u })
@@ -182,9 +188,11 @@ module _ (p : Program) (past : List Place) (base : Registers) (ws : List Registe
   pub frame_same : (k : Kind) (g : ℕ) → HasAccess j (access_to Cfm k g) → IsStrict k → holds S g ≡ true → S.frame ≡ base.frame
   frame_same k g h i e = same_plain (access_to Cfm k g) h i tt e TheFrame refl (λ w x. x)
 
-  cell_same : (r g : ℕ) → HasAccess j (access_to (Gr r) Read g) → holds S g ≡ true → (is_stacked r ≡ true → HasAccess j frame_read) → (o : Option Spot) → spot base.frame r ≡ o → cell_at base o ≡ cell_at S o
+  cell_same : (r g : ℕ) → HasAccess j (access_to (Gr r) Read g) → holds S g ≡ true → (is_stacked r ≡ true → HasAccess j frame_read)
+      → (o : Option Spot) → spot base.frame r ≡ o → cell_at base o ≡ cell_at S o
   cell_same r g h e f None q = refl
-  cell_same r g h e f (Some (Static n)) q = ap Some (sym (same_plain (access_to (Gr r) Read g) h tt tt e (StaticAt n) (ap spot_location q) (λ w x. x)))
+  cell_same r g h e f (Some (Static n)) q =
+      ap Some (sym (same_plain (access_to (Gr r) Read g) h tt tt e (StaticAt n) (ap spot_location q) (λ w x. x)))
   cell_same r g h e f (Some (Stacked n)) q = ap Some (sym (go (same_apply (CellAt n) ws (record base { unat = u }))))
     where
       go : TouchedBy (CellAt n) ws ⊎ SameAt (CellAt n) S (record base { unat = u }) → SameAt (CellAt n) S (record base { unat = u })
@@ -192,14 +200,16 @@ module _ (p : Program) (past : List Place) (base : Registers) (ws : List Registe
       go (inl (w, m, inl t)) = absurd (no_touch (access_to (Gr r) Read g) h tt tt e (CellAt n) (ap spot_location q) w m t)
       go (inl (w, m, inr t)) = absurd (no_touch frame_read (f (stacked_of base.frame r n q)) tt tt (holds_zero S) TheFrame refl w m t)
 
-  gr_same : (r g : ℕ) → HasAccess j (access_to (Gr r) Read g) → holds S g ≡ true → (is_stacked r ≡ true → HasAccess j frame_read) → look base r ≡ look S r
+  gr_same : (r g : ℕ) → HasAccess j (access_to (Gr r) Read g) → holds S g ≡ true → (is_stacked r ≡ true → HasAccess j frame_read)
+      → look base r ≡ look S r
   unfolding look
   gr_same zero g h e f = refl
   gr_same (suc r) g h e f =
       cell_same (suc r) g h e f (spot base.frame (suc r)) refl
       ∙ ap (cell_at S) (spot_same base.frame S.frame (suc r) (λ q. sym (frame_same Read 0 (f q) tt (holds_zero S))))
 
-  pub pr_same : (n g : ℕ) → HasAccess j (access_to (Pr n) Read g) → IsInRange (Pr n) → holds S g ≡ true → (is_rotating n ≡ true → HasAccess j frame_read) → holds base n ≡ holds S n
+  pub pr_same : (n g : ℕ) → HasAccess j (access_to (Pr n) Read g) → IsInRange (Pr n) → holds S g ≡ true
+      → (is_rotating n ≡ true → HasAccess j frame_read) → holds base n ≡ holds S n
   unfolding holds
   pr_same zero g h i e f = refl
   pr_same (suc n) g h i e f =
@@ -217,7 +227,8 @@ module _ (p : Program) (past : List Place) (base : Registers) (ws : List Registe
   fill_same k g h i e = sym (same_plain (access_to Unat k g) h i tt e TheUnat refl (λ w x. x))
 
   -- What is read as most instructions read is as at the group's start.
-  pub read_same : (q : Resource) (g : ℕ) → HasAccess j (access_to q Read g) → IsInRange q → holds S g ≡ true → (is_framed q ≡ true → HasAccess j frame_read) → SameIn q base S
+  pub read_same : (q : Resource) (g : ℕ) → HasAccess j (access_to q Read g) → IsInRange q → holds S g ≡ true
+      → (is_framed q ≡ true → HasAccess j frame_read) → SameIn q base S
   read_same (Gr r) g h i e f = gr_same r g h e f
   read_same (Pr n) g h i e f = pr_same n g h i e f
   read_same (Br b) g h i e f = sym (same_plain (access_to (Br b) Read g) h tt tt e (BranchAt b) refl (λ w x. x))

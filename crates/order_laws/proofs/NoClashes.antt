@@ -29,12 +29,19 @@ use Rattle.order_laws.proofs.Untouched.{Mem}
 use Rattle.order_laws.proofs.Gathering.{MayBeWrittenSince, ClashesWithNone}
 use Rattle.order_laws.proofs.Advancing.{has_here}
 
-module _ (p : Program) (free : HasNoViolation p) (s : State) (w : Walk) (known : IsKnown p s w) (j : Insn) (at : insn_at p.bundles s.place ≡ Some j) where
-  breaks_of : (i : Place) (rule : Rule) (q : Resource) → (rule ≡ Raw) ⊎ (rule ≡ Waw) → ClashesUnexcused (over_program p) (is_stopped p.bundles) w i rule q → Breaks (over_program p) (is_stopped p.bundles) w i rule q
-  breaks_of i rule q (inl e) c = subst (λ r. Breaks (over_program p) (is_stopped p.bundles) w i r q) (sym e) (subst (λ r. ClashesUnexcused (over_program p) (is_stopped p.bundles) w i r q) e c)
-  breaks_of i rule q (inr e) c = subst (λ r. Breaks (over_program p) (is_stopped p.bundles) w i r q) (sym e) (subst (λ r. ClashesUnexcused (over_program p) (is_stopped p.bundles) w i r q) e c)
+module _ (p : Program) (free : HasNoViolation p) (s : State) (w : Walk) (known : IsKnown p s w) (j : Insn)
+    (at : insn_at p.bundles s.place ≡ Some j) where
+  breaks_of : (i : Place) (rule : Rule) (q : Resource) → (rule ≡ Raw) ⊎ (rule ≡ Waw)
+      → ClashesUnexcused (over_program p) (is_stopped p.bundles) w i rule q → Breaks (over_program p) (is_stopped p.bundles) w i rule q
+  breaks_of i rule q (inl e) c =
+      subst (λ r. Breaks (over_program p) (is_stopped p.bundles) w i r q) (sym e)
+      (subst (λ r. ClashesUnexcused (over_program p) (is_stopped p.bundles) w i r q) e c)
+  breaks_of i rule q (inr e) c =
+      subst (λ r. Breaks (over_program p) (is_stopped p.bundles) w i r q) (sym e)
+      (subst (λ r. ClashesUnexcused (over_program p) (is_stopped p.bundles) w i r q) e c)
 
-  violates : (i : Place) (a b : Access) (rule : Rule) → Contains (earlier_in_group p w) i → Contains (accesses_at (over_program p) i) a → HasAccess j b → a.resource ≡ b.resource → clash a b ≡ Some rule → (rule ≡ Raw) ⊎ (rule ≡ Waw)
+  violates : (i : Place) (a b : Access) (rule : Rule) → Contains (earlier_in_group p w) i → Contains (accesses_at (over_program p) i) a
+      → HasAccess j b → a.resource ≡ b.resource → clash a b ≡ Some rule → (rule ≡ Raw) ⊎ (rule ≡ Waw)
       → ¬ IsExcused (over_program p) (is_stopped p.bundles) w i a.guard b.guard → ⊥
   violates i a b rule inside ha hb e c r stays =
       free (record { second = s.place; first = i; rule = rule; resource = a.resource })
@@ -57,7 +64,9 @@ module _ (p : Program) (free : HasNoViolation p) (s : State) (w : Walk) (known :
       })
 
   -- What is known is true, and what is known not to be written is not.
-  unexcused : (past : List Place) (i : Place) (a b : Access) → ((k : Place) → Mem k past → Contains (earlier_in_group p w) k) → holds s.registers b.guard ≡ true → (holds s.registers a.guard ≡ true) ⊎ MayBeWrittenSince p past i a.guard → ¬ IsExcused (over_program p) (is_stopped p.bundles) w i a.guard b.guard
+  unexcused : (past : List Place) (i : Place) (a b : Access) → ((k : Place) → Mem k past → Contains (earlier_in_group p w) k)
+      → holds s.registers b.guard ≡ true → (holds s.registers a.guard ≡ true) ⊎ MayBeWrittenSince p past i a.guard
+      → ¬ IsExcused (over_program p) (is_stopped p.bundles) w i a.guard b.guard
   unexcused past i a b inside on (inl h) x = let k = known.apart in k.apart a.guard b.guard x.known h on
   unexcused past i a b inside on (inr m) x = true≢false (sym m.writes ∙ x.unwritten m.place (inside m.place m.inside) m.since)
 

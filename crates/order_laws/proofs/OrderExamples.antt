@@ -61,7 +61,14 @@ with_p6_is_start : IsStart later_writes (with_p6 later_writes)
 with_p6_is_start = record {
   state = record {
     registers = apply_keeps (SetPredicate 6 true ∷ []) zero_registers ((λ e. absurd (omega arith)), tt) zero_registers_are;
-    memory = record { count = refl; bytes = λ i. omega arith; most = omega arith; entries = λ k d h. absurd (omega (arith, h)); apart = search rules };
+    memory =
+        record {
+          count = refl;
+          bytes = λ i. omega arith;
+          most = omega arith;
+          entries = λ k d h. absurd (omega (arith, h));
+          apart = search rules;
+        };
     place = first_is_place later_writes.bundles 0 (omega arith);
   };
   slot = refl;
@@ -71,7 +78,15 @@ with_p6_is_start = record {
 
 pub later_writes_differ : LaterWrites
 unfolding look spot holds predicate_index predicate_spot next_of insn_at is_stopped seq_step
-later_writes_differ = (λ robust. of (ap (λ (r : Run). static_of 14 r.state.registers) (robust 2 ([] ∷ (1 ∷ []) ∷ []) (with_p6 later_writes) with_p6_is_start)), refl, refl, refl, refl, refl)
+later_writes_differ = (
+  λ robust. of (ap (λ (r : Run). static_of 14 r.state.registers)
+      (robust 2 ([] ∷ (1 ∷ []) ∷ []) (with_p6 later_writes) with_p6_is_start)),
+  refl,
+  refl,
+  refl,
+  refl,
+  refl,
+)
   where
     of : cell 1 ≡ cell 2 → ⊥
     of e = let v : 1 ≡ 2 = ap (λ (c : Cell). c.value) e in omega (arith, v)

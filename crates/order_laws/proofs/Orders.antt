@@ -27,14 +27,19 @@ set-resized (suc n) (y ∷ l) zero x h = refl
 set-resized (suc n) (y ∷ l) (suc c) x h = ap (λ t. y ∷ t) (set-resized n l c x (omega arith))
 
 pub commute : (v w : Write) (r : Registers) → location v ≢ location w → IsReady r (v ∷ w ∷ []) → put w (put v r) ≡ put v (put w r)
-commute (SetStatic n c) (SetStatic m d) r ne h = ap (λ l. record r { statics = l }) (set-set_other r.statics n m c d (λ e. ne (ap StaticAt e)))
+commute (SetStatic n c) (SetStatic m d) r ne h =
+    ap (λ l. record r { statics = l }) (set-set_other r.statics n m c d (λ e. ne (ap StaticAt e)))
 commute (SetCell n c) (SetCell m d) r ne h = ap (λ l. record r { cells = l }) (set-set_other r.cells n m c d (λ e. ne (ap CellAt e)))
-commute (SetCell n c) (SetFrame cause f) r ne (inl h) = ap (λ l. record r { frame = f; cells = l }) (sym (set-resized (f.base + f.sof) r.cells n c h.0))
+commute (SetCell n c) (SetFrame cause f) r ne (inl h) =
+    ap (λ l. record r { frame = f; cells = l }) (sym (set-resized (f.base + f.sof) r.cells n c h.0))
 commute (SetCell n c) (SetFrame cause f) r ne (inr h) = absurd (h.1.0 refl)
-commute (SetFrame cause f) (SetCell n c) r ne (inl h) = ap (λ l. record r { frame = f; cells = l }) (set-resized (f.base + f.sof) r.cells n c h.1.0)
+commute (SetFrame cause f) (SetCell n c) r ne (inl h) =
+    ap (λ l. record r { frame = f; cells = l }) (set-resized (f.base + f.sof) r.cells n c h.1.0)
 commute (SetFrame cause f) (SetCell n c) r ne (inr h) = absurd (h.0 refl)
-commute (SetPredicate n c) (SetPredicate m d) r ne h = ap (λ l. record r { predicates = l }) (set-set_other r.predicates n m c d (λ e. ne (ap PredicateAt e)))
-commute (SetBranch n c) (SetBranch m d) r ne h = ap (λ l. record r { branches = l }) (set-set_other r.branches n m c d (λ e. ne (ap BranchAt e)))
+commute (SetPredicate n c) (SetPredicate m d) r ne h =
+    ap (λ l. record r { predicates = l }) (set-set_other r.predicates n m c d (λ e. ne (ap PredicateAt e)))
+commute (SetBranch n c) (SetBranch m d) r ne h =
+    ap (λ l. record r { branches = l }) (set-set_other r.branches n m c d (λ e. ne (ap BranchAt e)))
 commute (SetUnat a) (SetUnat b) r ne h = absurd (ne refl)
 commute (SetPfs a) (SetPfs b) r ne h = absurd (ne refl)
 commute (SetLc a) (SetLc b) r ne h = absurd (ne refl)
@@ -72,7 +77,8 @@ length_put (SetCell n c) r h = length-set r.cells n c
 length_put (SetFrame cause f) r h = absurd (h refl)
 length_put _ r h = refl
 
-each_inside : (w : Write) (r : Registers) (ws : List Write) → IsNoFrame w → Each (IsCellBelow (length r.cells)) ws → Each (IsCellBelow (length (put w r).cells)) ws
+each_inside : (w : Write) (r : Registers) (ws : List Write) → IsNoFrame w → Each (IsCellBelow (length r.cells)) ws
+    → Each (IsCellBelow (length (put w r).cells)) ws
 each_inside w r ws h e = rw (length_put w r h) e
 
 no_frame_follows : (w : Write) → location w ≡ TheFrame → (v : Write) → FitsBeside w v → IsNoFrame v
@@ -105,18 +111,22 @@ swap_two v w r (inl ne) h = commute v w r ne h
 swap_two v w r (inr e) h = rw e.1 refl
 
 -- An item that is item_at from the middle and made first.
-pub front : (x : Write) (xs : List Write) (n : ℕ) (r : Registers) → FitTogether (x ∷ xs) → IsReady r (x ∷ xs) → apply (item_at x xs n ∷ others x xs n) r ≡ apply (x ∷ xs) r
+pub front : (x : Write) (xs : List Write) (n : ℕ) (r : Registers) → FitTogether (x ∷ xs) → IsReady r (x ∷ xs)
+    → apply (item_at x xs n ∷ others x xs n) r ≡ apply (x ∷ xs) r
 front x [] n r f h = refl
 front x (y ∷ ys) zero r f h = refl
 front x (y ∷ ys) (suc n) r f h =
-    ap (apply (others y ys n)) (swap_two (item_at y ys n) x r (fits_flip _ _ (each_taken (FitsBeside x) y ys n f.0)) (ready_two y ys n x r h))
+    ap (apply (others y ys n)) (swap_two (item_at y ys n) x r (fits_flip _ _ (each_taken (FitsBeside x) y ys n f.0))
+    (ready_two y ys n x r h))
     ∙ front y ys n (put x r) f.1 (ready_tail x (y ∷ ys) r f.0 h)
 
-orders_within : (n : ℕ) (code : List ℕ) (ws : List Write) (r : Registers) → FitTogether ws → IsReady r ws → apply (arranged_within n code ws) r ≡ apply ws r
+orders_within : (n : ℕ) (code : List ℕ) (ws : List Write) (r : Registers) → FitTogether ws → IsReady r ws
+    → apply (arranged_within n code ws) r ≡ apply ws r
 orders_within zero code ws r f h = refl
 orders_within (suc n) code [] r f h = refl
 orders_within (suc n) code (x ∷ xs) r f h =
-    orders_within n (tail_of code) (others x xs k) (put (item_at x xs k) r) (fit_left x xs k f) (ready_tail (item_at x xs k) (others x xs k) r (fit_taken x xs k f) (ready_left x xs k r h))
+    orders_within n (tail_of code) (others x xs k) (put (item_at x xs k) r) (fit_left x xs k f)
+    (ready_tail (item_at x xs k) (others x xs k) r (fit_taken x xs k f) (ready_left x xs k r h))
     ∙ front x xs k r f h
   where
     k : ℕ
@@ -142,23 +152,27 @@ frames_swap : (x y : Write) (l : List Write) → FitsBeside x y → frame_change
 frames_swap x y l (inr h) = rw h.1 refl
 frames_swap x y l (inl h) = go (is_frame x) (is_frame y)
   where
-    go : (location x ≡ TheFrame) ⊎ IsNoFrame x → (location y ≡ TheFrame) ⊎ IsNoFrame y → frame_changes (x ∷ y ∷ l) ≡ frame_changes (y ∷ x ∷ l)
+    go : (location x ≡ TheFrame) ⊎ IsNoFrame x → (location y ≡ TheFrame) ⊎ IsNoFrame y
+        → frame_changes (x ∷ y ∷ l) ≡ frame_changes (y ∷ x ∷ l)
     go (inl a) (inl b) = absurd (h (a ∙ sym b))
     go (inr a) b = frames_none x (y ∷ l) a ∙ sym (frames_cons y (x ∷ l) l (frames_none x l a))
     go (inl a) (inr b) = frames_cons x (y ∷ l) l (frames_none y l b) ∙ sym (frames_none y (x ∷ l) b)
 
-frames_front : (x : Write) (xs : List Write) (n : ℕ) → FitTogether (x ∷ xs) → frame_changes (item_at x xs n ∷ others x xs n) ≡ frame_changes (x ∷ xs)
+frames_front : (x : Write) (xs : List Write) (n : ℕ) → FitTogether (x ∷ xs)
+    → frame_changes (item_at x xs n ∷ others x xs n) ≡ frame_changes (x ∷ xs)
 frames_front x [] n h = refl
 frames_front x (y ∷ ys) zero h = refl
 frames_front x (y ∷ ys) (suc n) h =
     frames_swap (item_at y ys n) x (others y ys n) (fits_flip _ _ (each_taken (FitsBeside x) y ys n h.0))
     ∙ frames_cons x (item_at y ys n ∷ others y ys n) (y ∷ ys) (frames_front y ys n h.1)
 
-pub frames_within : (n : ℕ) (code : List ℕ) (ws : List Write) → FitTogether ws → frame_changes (arranged_within n code ws) ≡ frame_changes ws
+pub frames_within : (n : ℕ) (code : List ℕ) (ws : List Write) → FitTogether ws
+    → frame_changes (arranged_within n code ws) ≡ frame_changes ws
 frames_within zero code ws h = refl
 frames_within (suc n) code [] h = refl
 frames_within (suc n) code (x ∷ xs) h =
-    frames_cons (item_at x xs (head_of code % length (x ∷ xs))) _ (others x xs (head_of code % length (x ∷ xs))) (frames_within n (tail_of code) (others x xs (head_of code % length (x ∷ xs))) (fit_left x xs (head_of code % length (x ∷ xs)) h))
+    frames_cons (item_at x xs (head_of code % length (x ∷ xs))) _ (others x xs (head_of code % length (x ∷ xs)))
+    (frames_within n (tail_of code) (others x xs (head_of code % length (x ∷ xs))) (fit_left x xs (head_of code % length (x ∷ xs)) h))
     ∙ frames_front x xs (head_of code % length (x ∷ xs)) h
 
 pub frames : (code : List ℕ) (ws : List Write) → FitTogether ws → frame_changes (arranged code ws) ≡ frame_changes ws

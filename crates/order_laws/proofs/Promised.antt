@@ -35,7 +35,8 @@ second_holds r x y h k = of (x == y) refl k
     of false e k = k
 
 -- One pair is another: so both predicates of the one are 1 where those of the other are.
-same_holds : (r : Registers) (a b x y : ℕ) → is_same_pair a b x y ≡ true → holds r x ≡ true → holds r y ≡ true → (holds r a ≡ true) × (holds r b ≡ true)
+same_holds : (r : Registers) (a b x y : ℕ) → is_same_pair a b x y ≡ true → holds r x ≡ true → holds r y ≡ true
+    → (holds r a ≡ true) × (holds r b ≡ true)
 same_holds r a b x y same h k = of (parts a b x y same)
   where
     parts : (a b x y : ℕ) → is_same_pair a b x y ≡ true → ((x ≡ a) × (y ≡ b)) ⊎ ((x ≡ b) × (y ≡ a))
@@ -46,11 +47,13 @@ same_holds r a b x y same h k = of (parts a b x y same)
     of (inr (e, f)) = (ap (holds r) (sym f) ∙ k, ap (holds r) (sym e) ∙ h)
 
 -- One pair more, of two predicates that aren't both 1.
-pair_apart : (f : Pairs) (r : Registers) (a b : ℕ) → (holds r a ≡ true → holds r b ≡ true → ⊥) → AreNeverBothOne f r → AreNeverBothOne (with_pair f a b) r
+pair_apart : (f : Pairs) (r : Registers) (a b : ℕ) → (holds r a ≡ true → holds r b ≡ true → ⊥) → AreNeverBothOne f r
+    → AreNeverBothOne (with_pair f a b) r
 unfolding with_pair
 pair_apart f r a b apart known = record { apart = λ x y m h k. of x y (f x y) refl m h k }
   where
-    of : (x y : ℕ) (c : Bool) → f x y ≡ c → (c || is_same_pair a (other_of a b) x (other_of x y)) ≡ true → holds r x ≡ true → holds r y ≡ true → ⊥
+    of : (x y : ℕ) (c : Bool) → f x y ≡ c → (c || is_same_pair a (other_of a b) x (other_of x y)) ≡ true → holds r x ≡ true
+        → holds r y ≡ true → ⊥
     of x y true e m h k = known.apart x y e h k
     of x y false e m h k =
         let both = same_holds r a (other_of a b) x (other_of x y) m h (other_holds r x y k) in
@@ -63,11 +66,14 @@ record IsOfStatic (relation : Relation) : Type 0 where
   static : relation.q ≤ 15
 
 -- The relations of a bundle are of such predicates where all are.
-each_static : (bundle : ℕ) (rs : List Relation) → ((n : ℕ) → n < length rs → IsOfStatic (relation_at rs n)) → Each IsOfStatic (relations_at rs bundle)
+each_static : (bundle : ℕ) (rs : List Relation) → ((n : ℕ) → n < length rs → IsOfStatic (relation_at rs n))
+    → Each IsOfStatic (relations_at rs bundle)
 each_static bundle [] all = tt
-each_static bundle (r ∷ rs) all = kept (r.bundle == bundle) (all zero (omega arith)) (each_static bundle rs (λ n inside. all (suc n) (omega arith)))
+each_static bundle (r ∷ rs) all =
+    kept (r.bundle == bundle) (all zero (omega arith)) (each_static bundle rs (λ n inside. all (suc n) (omega arith)))
   where
-    kept : (b : Bool) → IsOfStatic r → Each IsOfStatic (relations_at rs bundle) → Each IsOfStatic (cond b (r ∷ relations_at rs bundle) (relations_at rs bundle))
+    kept : (b : Bool) → IsOfStatic r → Each IsOfStatic (relations_at rs bundle)
+        → Each IsOfStatic (cond b (r ∷ relations_at rs bundle) (relations_at rs bundle))
     kept true first rest = (first, rest)
     kept false first rest = rest
 
@@ -79,7 +85,8 @@ static_holds r p some static =
     ∙ sym (get_or-take 16 r.predicates p false (omega arith))
 
 -- Where the first sixteen break no relation the pairs of all are apart.
-relations_apart : (f : Pairs) (r : Registers) (rs : List Relation) → Each IsOfStatic rs → list_any (are_both_one (take 16 r.predicates)) rs ≡ false → AreNeverBothOne f r → AreNeverBothOne (with_relations f rs) r
+relations_apart : (f : Pairs) (r : Registers) (rs : List Relation) → Each IsOfStatic rs
+    → list_any (are_both_one (take 16 r.predicates)) rs ≡ false → AreNeverBothOne f r → AreNeverBothOne (with_relations f rs) r
 relations_apart f r [] static none known = known
 relations_apart f r (x ∷ rs) (static, later) none known =
     let p = static_holds r x.p static.some (omega (arith, static.apart, static.static)) in
@@ -87,9 +94,11 @@ relations_apart f r (x ∷ rs) (static, later) none known =
     relations_apart (with_pair f x.p x.q) r rs later (grind arith) (pair_apart f r x.p x.q (λ h k. absurd (grind (arith, p, q))) known)
 
 -- The predicates of no pair that an entry declares are both 1 where they break none of its relations, as in a start state.
-pub promised_apart : (p : Program) (r : Registers) (bundle : ℕ) → IsProgram p → breaks_relation p (take 16 r.predicates) bundle ≡ false → AreNeverBothOne (known_first p bundle) r
+pub promised_apart : (p : Program) (r : Registers) (bundle : ℕ) → IsProgram p → breaks_relation p (take 16 r.predicates) bundle ≡ false
+    → AreNeverBothOne (known_first p bundle) r
 unfolding known_at_entry
 promised_apart p r bundle program none =
     relations_apart no_pairs r (relations_at p.relations bundle)
-    (each_static bundle p.relations (λ n inside. let at = program.relations n inside in record { some = at.some; apart = at.apart; static = at.static }))
+    (each_static bundle p.relations (λ n inside. let at = program.relations n inside in
+    record { some = at.some; apart = at.apart; static = at.static }))
     none (nothing_apart r)

@@ -36,17 +36,20 @@ use Rattle.resource_sets.proofs.Locations.{predicate_at}
 use Rattle.order_laws.proofs.Gathering.{joined, access_to, IsGathering, ClashesWithNone, EarlierWrite, no_clash, change_of, strict_clash, frame_same, fill_same, pr_same, read_same}
 
 -- UNAT apart, the same writes leave the same.
-pub apply_unat : (ws : List RegisterWrite) (r : Registers) (u : ℕ) → (x : ℕ) × (apply ws (record r { unat = u }) ≡ record (apply ws r) { unat = x })
+pub apply_unat : (ws : List RegisterWrite) (r : Registers) (u : ℕ)
+    → (x : ℕ) × (apply ws (record r { unat = u }) ≡ record (apply ws r) { unat = x })
 apply_unat [] r u = (u, refl)
 apply_unat (SetUnat v ∷ ws) r u = apply_unat ws (record r { unat = v }) v
 apply_unat (SetStatic n c ∷ ws) r u = apply_unat ws (put (SetStatic n c) r) u
 apply_unat (w ∷ ws) r u = apply_unat ws (put w r) u
 
 -- What is seen is as earlier slots left it.
-seen_here : {X : Type 0} (sees : ℕ → Bool) (k : ℕ) (base now : List X) (d : X) → length now ≡ length base → sees k ≡ true → get_or (seen_in sees 0 base now) k d ≡ get_or now k d
+seen_here : {X : Type 0} (sees : ℕ → Bool) (k : ℕ) (base now : List X) (d : X) → length now ≡ length base → sees k ≡ true
+    → get_or (seen_in sees 0 base now) k d ≡ get_or now k d
 seen_here sees k base now d e h =
     let same : 0 + k ≡ k = omega arith in
-    seen_at sees 0 k base now d e ∙ ap (λ i. if sees i then get_or now k d else get_or base k d) same ∙ ap (λ b. if b then get_or now k d else get_or base k d) h
+    seen_at sees 0 k base now d e ∙ ap (λ i. if sees i then get_or now k d else get_or base k d) same
+    ∙ ap (λ b. if b then get_or now k d else get_or base k d) h
 
 -- A choice of two that are the same.
 same_choices : {X : Type 0} (b : Bool) (x y z : X) → x ≡ z → y ≡ z → (if b then x else y) ≡ z
@@ -54,7 +57,8 @@ same_choices true x y z e f = e
 same_choices false x y z e f = f
 
 -- Lists with the same first items.
-take_same : {X : Type 0} (d : X) (n : ℕ) (xs ys : List X) → length xs ≡ length ys → ((k : ℕ) → k < n → get_or xs k d ≡ get_or ys k d) → take n xs ≡ take n ys
+take_same : {X : Type 0} (d : X) (n : ℕ) (xs ys : List X) → length xs ≡ length ys → ((k : ℕ) → k < n → get_or xs k d ≡ get_or ys k d)
+    → take n xs ≡ take n ys
 take_same d n xs ys e same = ext_get_or d (take n xs) (take n ys) (length-take n xs ∙ ap (min n) e ∙ sym (length-take n ys))
     (λ k h.
     let inside : k < n = omega (arith, length-take n xs) in
@@ -64,11 +68,13 @@ sees_itself : (n : ℕ) → (n == n) ≡ true
 sees_itself n = grind (arith, nat_tests)
 
 -- An item that isn't seen is the start's.
-seen_other : {X : Type 0} (sees : ℕ → Bool) (n k : ℕ) (base now : List X) (d : X) → sees (n + k) ≡ false → get_or (seen_in sees n base now) k d ≡ get_or base k d
+seen_other : {X : Type 0} (sees : ℕ → Bool) (n k : ℕ) (base now : List X) (d : X) → sees (n + k) ≡ false
+    → get_or (seen_in sees n base now) k d ≡ get_or base k d
 seen_other sees n k [] now d e = refl
 seen_other sees n k (x ∷ base) [] d e = refl
 seen_other sees n zero (x ∷ base) (y ∷ now) d e = let same : n ≡ n + 0 = omega arith in ap (λ b. if b then y else x) (ap sees same ∙ e)
-seen_other sees n (suc k) (x ∷ base) (y ∷ now) d e = let same : suc n + k ≡ n + suc k = omega arith in seen_other sees (suc n) k base now d (ap sees same ∙ e)
+seen_other sees n (suc k) (x ∷ base) (y ∷ now) d e =
+    let same : suc n + k ≡ n + suc k = omega arith in seen_other sees (suc n) k base now d (ap sees same ∙ e)
 
 other_place : (b c : Bool) (n m : ℕ) → n ≢ m → c ≡ false → ((b && (n == m)) || c) ≡ false
 other_place false c n m e k = k
@@ -83,8 +89,10 @@ all_see_the_start insn now base = record {
   cells = refl;
   frame = refl;
   predicates = λ n e k. seen_other (sees_predicate insn base.frame) 0 n base.predicates now.predicates false
-      (from_start (sees_predicate insn base.frame) n (other_place (is_branch (insn_action insn)) (sees_static (insn_action insn) n) n (predicate_index base.frame insn.qp) e k));
-  branches = λ n e. seen_other (sees_branch (insn_action insn)) 0 n base.branches now.branches 0 (from_start (sees_branch (insn_action insn)) n e);
+      (from_start (sees_predicate insn base.frame) n (other_place (is_branch (insn_action insn))
+      (sees_static (insn_action insn) n) n (predicate_index base.frame insn.qp) e k));
+  branches =
+      λ n e. seen_other (sees_branch (insn_action insn)) 0 n base.branches now.branches 0 (from_start (sees_branch (insn_action insn)) n e);
   unat = refl;
   pfs = λ e. ap (λ b. if b then now.pfs else base.pfs) e;
   lc = refl;
@@ -92,14 +100,18 @@ all_see_the_start insn now base = record {
 }
 
 -- The qualifying predicate of a branch is as earlier slots left it.
-branch_holds : (insn : Insn) (now base s : Registers) → is_branch (insn_action insn) ≡ true → length now.predicates ≡ length base.predicates → now.predicates ≡ s.predicates
+branch_holds : (insn : Insn) (now base s : Registers) → is_branch (insn_action insn) ≡ true → length now.predicates ≡ length base.predicates
+    → now.predicates ≡ s.predicates
     → (is_rotating insn.qp ≡ true → base.frame ≡ s.frame) → (q : ℕ) → insn.qp ≡ q → holds (view insn now base) q ≡ holds s q
 unfolding holds
 branch_holds insn now base s b l m f zero is = refl
 branch_holds insn now base s b l m f (suc n) is =
     let place = predicate_index base.frame (suc n) in
-    let guard : sees_guard insn base.frame place ≡ true = ap (λ t. t && (place == predicate_index base.frame insn.qp)) b ∙ ap (λ q. place == predicate_index base.frame q) is ∙ sees_itself place in
-    let sees : sees_predicate insn base.frame place ≡ true = or_left (sees_guard insn base.frame place) (sees_static (insn_action insn) place) guard in
+    let guard : sees_guard insn base.frame place ≡ true =
+    ap (λ t. t && (place == predicate_index base.frame insn.qp)) b ∙ ap (λ q. place == predicate_index base.frame q) is
+    ∙ sees_itself place in
+    let sees : sees_predicate insn base.frame place ≡ true =
+    or_left (sees_guard insn base.frame place) (sees_static (insn_action insn) place) guard in
     seen_here (sees_predicate insn base.frame) place base.predicates now.predicates false l sees
     ∙ ap (λ (t : List Bool). get_or t place false) m
     ∙ ap (λ t. get_or s.predicates t false) (place_same base.frame s.frame (suc n) (λ r. f (ap is_rotating is ∙ r)))
@@ -111,7 +123,8 @@ IsWriteKind BranchRead = ⊥
 IsWriteKind Fill = ⊥
 IsWriteKind k = ⊤
 
-agrees_by : (v w : Registers) (x y : ℕ) (k : Kind) (q : Resource) → (k ≡ Read → SameIn q v w) → (k ≡ BranchRead → SameIn q v w) → (k ≡ Fill → x ≡ y) → (IsWriteKind k → q ≡ Cfm → v.frame ≡ w.frame) → AgreesOn v w x y k q
+agrees_by : (v w : Registers) (x y : ℕ) (k : Kind) (q : Resource) → (k ≡ Read → SameIn q v w) → (k ≡ BranchRead → SameIn q v w)
+    → (k ≡ Fill → x ≡ y) → (IsWriteKind k → q ≡ Cfm → v.frame ≡ w.frame) → AgreesOn v w x y k q
 agrees_by v w x y Read q r b f c = r refl
 agrees_by v w x y BranchRead q r b f c = b refl
 agrees_by v w x y Fill q r b f c = f refl
@@ -128,7 +141,9 @@ agrees_by v w x y AndWrite q r b f c = tt
 agrees_by v w x y Spill Cfm r b f c = c tt refl
 agrees_by v w x y Spill q r b f c = tt
 
-module _ (p : Program) (past : List Place) (base : Registers) (ws : List RegisterWrite) (u : ℕ) (j : Insn) (way : IsGathering p past base ws u) (clean : ClashesWithNone p past j (joined base ws u)) (listed : IsListed j) (na : is_alloc (insn_action j) ≡ false) where
+module _ (p : Program) (past : List Place) (base : Registers) (ws : List RegisterWrite) (u : ℕ) (j : Insn)
+    (way : IsGathering p past base ws u) (clean : ClashesWithNone p past j (joined base ws u)) (listed : IsListed j)
+    (na : is_alloc (insn_action j) ≡ false) where
   abbrev S : Registers
   S = joined base ws u
 
@@ -177,7 +192,8 @@ module _ (p : Program) (past : List Place) (base : Registers) (ws : List Registe
   reads : (a : Access) → HasNamedAccess j a → a.kind ≡ Read → holds S a.guard ≡ true → SameIn a.resource base S
   reads a h k g =
       let r = reg a h in
-      read_same p past base ws u j way clean a.resource a.guard (subst (λ x. HasAccess j (access_to a.resource x a.guard)) k (acc a h)) (range a h) g (λ f. acc _ (r.framed f))
+      read_same p past base ws u j way clean a.resource a.guard (subst (λ x. HasAccess j (access_to a.resource x a.guard)) k (acc a h))
+      (range a h) g (λ f. acc _ (r.framed f))
 
   counts : (q : Resource) → IsCountOrFrame q → SameIn q base S → SameIn q V S
   counts Lc c h = h
@@ -186,7 +202,9 @@ module _ (p : Program) (past : List Place) (base : Registers) (ws : List Registe
   counts q c h = absurd c
 
   branch_now : (b : ℕ) → sees_branch (insn_action j) b ≡ true → get_or V.branches b 0 ≡ get_or S.branches b 0
-  branch_now b e = seen_here (sees_branch (insn_action j)) b base.branches N.branches 0 (length_branches ws base) e ∙ sym (ap (λ (r : Registers). get_or r.branches b 0) apart)
+  branch_now b e =
+      seen_here (sees_branch (insn_action j)) b base.branches N.branches 0 (length_branches ws base) e
+      ∙ sym (ap (λ (r : Registers). get_or r.branches b 0) apart)
 
   pfs_now : sees_pfs (insn_action j) ≡ true → V.pfs ≡ S.pfs
   pfs_now e = ap (λ b. if b then N.pfs else base.pfs) e ∙ sym (ap (λ (r : Registers). r.pfs) apart)
@@ -228,11 +246,13 @@ module _ (p : Program) (past : List Place) (base : Registers) (ws : List Registe
     by_fill : a.kind ≡ Fill → u ≡ S.unat
     by_fill k =
         let r = reg a h in
-        fill_same p past base ws u j way clean Fill a.guard (subst (λ q. HasAccess j (access_to q Fill a.guard)) (r.fill k) (subst (λ x. HasAccess j (access_to a.resource x a.guard)) k (acc a h))) tt on_now
+        fill_same p past base ws u j way clean Fill a.guard (subst (λ q. HasAccess j (access_to q Fill a.guard)) (r.fill k)
+        (subst (λ x. HasAccess j (access_to a.resource x a.guard)) k (acc a h))) tt on_now
 
     by_frame : (k : Kind) → a.kind ≡ k → IsWriteKind k → a.resource ≡ Cfm → V.frame ≡ S.frame
     by_frame Write k c q =
-        sym (frame_same p past base ws u j way clean Write a.guard (subst (λ x. HasAccess j (access_to x Write a.guard)) q (subst (λ x. HasAccess j (access_to a.resource x a.guard)) k (acc a h))) tt on_now)
+        sym (frame_same p past base ws u j way clean Write a.guard (subst (λ x. HasAccess j (access_to x Write a.guard)) q
+        (subst (λ x. HasAccess j (access_to a.resource x a.guard)) k (acc a h))) tt on_now)
     by_frame AllocWrite k c q = let r = reg a h in absurd (true≢false (sym (r.alloc_write k).0 ∙ na))
     by_frame LoopWrite k c q = let r = reg a h in let e : Pr 63 ≡ Cfm = sym (r.loop_write k) ∙ q in absurd (cc)
     by_frame OrWrite k c q = let r = reg a h in absurd (subst IsPredicate q (r.or_write k))
@@ -246,7 +266,8 @@ module _ (p : Program) (past : List Place) (base : Registers) (ws : List Registe
     agrees = agrees_by V S u S.unat a.kind a.resource by_read by_branch_read by_fill (by_frame a.kind refl)
 
   -- Where it reads each predicate, all places of predicates are as they were.
-  predicates_same : holds V j.qp ≡ true → ((n : ℕ) → 1 ≤ n → n < 64 → HasAccess j (access_to (Pr n) Read j.qp)) → base.predicates ≡ S.predicates
+  predicates_same : holds V j.qp ≡ true → ((n : ℕ) → 1 ≤ n → n < 64 → HasAccess j (access_to (Pr n) Read j.qp))
+      → base.predicates ≡ S.predicates
   predicates_same on h =
       ext_get_or false base.predicates S.predicates (sym (length_predicates ws (record base { unat = u })))
       (λ n _. sym (go n (same_apply (PredicateAt n) ws (record base { unat = u }))))
@@ -259,7 +280,8 @@ module _ (p : Program) (past : List Place) (base : Registers) (ws : List Registe
           no_clash p past base S j o.access (access_to (Pr q.0) Read j.qp) clean o.trace (h q.0 r.0 r.1) q.1
           (change_of o.access.kind o.plain) (strict_clash o.access.kind Read o.plain tt) (sym qp_same ∙ on)
 
-      go : (n : ℕ) → TouchedBy (PredicateAt n) ws ⊎ SameAt (PredicateAt n) S (record base { unat = u }) → SameAt (PredicateAt n) S (record base { unat = u })
+      go : (n : ℕ) → TouchedBy (PredicateAt n) ws ⊎ SameAt (PredicateAt n) S (record base { unat = u })
+          → SameAt (PredicateAt n) S (record base { unat = u })
       go n (inl x) = absurd (touched n x.0 x.1 x.2)
       go n (inr x) = x
 
@@ -276,13 +298,16 @@ module _ (p : Program) (past : List Place) (base : Registers) (ws : List Registe
           let there : predicate_index base.frame q.0 ≡ 0 = cc in
           place_some base.frame q.0 (λ e. absurd (omega (arith, r.0))) there
 
-      go : TouchedBy (PredicateAt 0) ws ⊎ SameAt (PredicateAt 0) S (record base { unat = u }) → SameAt (PredicateAt 0) S (record base { unat = u })
+      go : TouchedBy (PredicateAt 0) ws ⊎ SameAt (PredicateAt 0) S (record base { unat = u })
+          → SameAt (PredicateAt 0) S (record base { unat = u })
       go (inl x) = absurd (untouched x.0 x.1 x.2)
       go (inr x) = x
 
   -- An indirect branch sees the first sixteen predicates as earlier slots left them.
   statics_now : is_indirect (insn_action j) ≡ true → take 16 V.predicates ≡ take 16 S.predicates
-  statics_now e = take_same false 16 V.predicates S.predicates (length_seen (sees_predicate j base.frame) 0 base.predicates N.predicates ∙ sym (length_predicates ws (record base { unat = u }))) each
+  statics_now e =
+      take_same false 16 V.predicates S.predicates (length_seen (sees_predicate j base.frame) 0 base.predicates N.predicates
+      ∙ sym (length_predicates ws (record base { unat = u }))) each
     where
       left : (n : ℕ) → get_or N.predicates n false ≡ get_or S.predicates n false
       left n = ap (λ (r : Registers). get_or r.predicates n false) (sym apart)
@@ -293,7 +318,8 @@ module _ (p : Program) (past : List Place) (base : Registers) (ws : List Registe
           ∙ same_choices (sees_predicate j base.frame 0) _ _ _ (left 0) (sym first_kept)
       each (suc n) h =
           let sees : sees_static (insn_action j) (suc n) ≡ true = rw e (grind (arith, nat_tests)) in
-          seen_here (sees_predicate j base.frame) (suc n) base.predicates N.predicates false (length_predicates ws base) (or_right (sees_guard j base.frame (suc n)) (sees_static (insn_action j) (suc n)) sees)
+          seen_here (sees_predicate j base.frame) (suc n) base.predicates N.predicates false (length_predicates ws base)
+          (or_right (sees_guard j base.frame (suc n)) (sees_static (insn_action j) (suc n)) sees)
           ∙ left (suc n)
 
   pub agree : Agree j V S u S.unat

@@ -64,7 +64,8 @@ targets_stand p code s w xs ys x program free known e plain =
 
     one : (v : Write) → Mem v all.writes → IsStaticOf (length start.statics) v
     one (SetStatic n c) m =
-        let from = each_mem (EarlierWrite p is.past all.base (joined all.base all.writes all.unat)) (SetStatic n c) all.writes way.origins m in
+        let from =
+        each_mem (EarlierWrite p is.past all.base (joined all.base all.writes all.unat)) (SetStatic n c) all.writes way.origins m in
         subst (λ k. n < k) (sym statics) (static_place all.base.frame from.access.resource n from.names)
     one v m = tt
 

@@ -85,7 +85,8 @@ pub same_apply : (t : Location) (ws : List Write) (r : Registers) → TouchedBy 
 same_apply t [] r = inr (same_refl t r)
 same_apply t (w ∷ ws) r = go (same_put t w r) (same_apply t ws (put w r))
   where
-    go : Touches t w ⊎ SameAt t (put w r) r → TouchedBy t ws ⊎ SameAt t (apply ws (put w r)) (put w r) → TouchedBy t (w ∷ ws) ⊎ SameAt t (apply ws (put w r)) r
+    go : Touches t w ⊎ SameAt t (put w r) r → TouchedBy t ws ⊎ SameAt t (apply ws (put w r)) (put w r)
+        → TouchedBy t (w ∷ ws) ⊎ SameAt t (apply ws (put w r)) r
     go (inl h) k = inl (w, inl refl, h)
     go (inr h) (inl k) = inl (k.0, inr k.1, k.2)
     go (inr h) (inr k) = inr (same_join t _ _ _ k h)
@@ -110,4 +111,7 @@ apart_of w (v ∷ vs) h = (inl (h 0 v (omega arith)), apart_of w vs (λ k d l. h
 
 pub fit_of : (ws : List Write) → AllPairs (λ v w. location v ≢ location w) ws → FitTogether ws
 fit_of [] h = tt
-fit_of (w ∷ ws) h = (apart_of w ws (λ k d l. h 0 (suc k) d (omega arith) (omega arith)), fit_of ws (λ i j d l m. h (suc i) (suc j) d (omega arith) (omega arith)))
+fit_of (w ∷ ws) h = (
+  apart_of w ws (λ k d l. h 0 (suc k) d (omega arith) (omega arith)),
+  fit_of ws (λ i j d l m. h (suc i) (suc j) d (omega arith) (omega arith)),
+)

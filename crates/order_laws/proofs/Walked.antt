@@ -41,14 +41,16 @@ no_target (Return b2) bundle to h e = cc
 no_target f bundle to h e = cc
 
 -- A step that lands follows no edge.
-landed : (p : Program) (from to : Place) (o : Option Insn) (h : Option How) → insn_at p.bundles from ≡ o → is_landing o h ≡ true → HasEdge p from (edge_by h) to → ⊥
+landed : (p : Program) (from to : Place) (o : Option Insn) (h : Option How) → insn_at p.bundles from ≡ o → is_landing o h ≡ true
+    → HasEdge p from (edge_by h) to → ⊥
 unfolding edge_end
 landed p from to None h here l edge = cc
 landed p from to (Some insn) None here l edge = cc
 landed p from to (Some insn) (Some how.Falls) here l edge = cc
 landed p from to (Some insn) (Some how.Ends) here l edge = cc
 landed p from to (Some insn) (Some how.Taken) here l edge =
-    let leads : edge_of p.bundles from (Some insn) Taken ≡ Some to = sym (ap (λ (o : Option Insn). edge_of p.bundles from o Taken) here) ∙ edge.leads in
+    let leads : edge_of p.bundles from (Some insn) Taken ≡ Some to =
+    sym (ap (λ (o : Option Insn). edge_of p.bundles from o Taken) here) ∙ edge.leads in
     no_target (insn_action insn) from.bundle to l leads
 
 -- One that lands on an entry is found to land.
@@ -66,10 +68,13 @@ module _ (p : Program) (s : State) (w : Walk) (program : IsProgram p) (known : I
       record {
         state = keeps_state p s program known.state;
         ends = record {
-          walks = (known.ends.walks, subst (λ (q : Place). HasEdge p q (edge_by (seq_step p s).how) (seq_step p s).state.place) (sym at) edge);
+          walks =
+              (known.ends.walks, subst (λ (q : Place). HasEdge p q (edge_by (seq_step p s).how) (seq_step p s).state.place) (sym at) edge);
           ends = refl;
         };
-        apart = subst (λ (q : Place). AreNeverBothOne (pairs_past p q (edge_by (seq_step p s).how) (facts_on p w)) (seq_step p s).state.registers) (sym at)
+        apart =
+            subst (λ (q : Place). AreNeverBothOne (pairs_past p q (edge_by (seq_step p s).how) (facts_on p w))
+            (seq_step p s).state.registers) (sym at)
             (keeps_apart p s (facts_on p w) program known.state goes edge known.apart);
       }
 
@@ -84,7 +89,8 @@ module _ (p : Program) (s : State) (w : Walk) (program : IsProgram p) (known : I
   step_known = of (is_landing (insn_at p.bundles s.place) (seq_step p s).how) refl (goes_along keeps_state p s program known.state goes)
     where
       of : (b : Bool) → is_landing (insn_at p.bundles s.place) (seq_step p s).how ≡ b → FollowsEdge p s ⊎ LandsOnEntry p s
-          → IsKnown p (seq_step p s).state (if b then begins (seq_step p s).state.place.bundle else goes_on w (edge_by (seq_step p s).how) (seq_step p s).state.place)
+          → IsKnown p (seq_step p s).state (if b then begins (seq_step p s).state.place.bundle else goes_on w (edge_by (seq_step p s).how)
+          (seq_step p s).state.place)
       of true l (inl edge) = absurd (landed p s.place (seq_step p s).state.place (insn_at p.bundles s.place) (seq_step p s).how refl l edge)
       of true l (inr lands) = anew lands.start
       of false l (inl edge) = along edge
@@ -144,12 +150,15 @@ fallen_group : (p : Program) (w : Walk) (place to : Place) (stopped : Bool) → 
 fallen_group p w place to true at e = let s : is_stopped p.bundles (end_of w) ≡ true = ap (is_stopped p.bundles) at ∙ e in rw s refl
 fallen_group p w place to false at e = let s : is_stopped p.bundles (end_of w) ≡ false = ap (is_stopped p.bundles) at ∙ e in rw (s, at) refl
 
-group_by_way : (p : Program) (s : State) (w : Walk) (insn : Insn) (o : Outcome) (way : Next) → end_of w ≡ s.place → insn_at p.bundles s.place ≡ Some insn → (step_by p s o way).end ≡ None
+group_by_way : (p : Program) (s : State) (w : Walk) (insn : Insn) (o : Outcome) (way : Next) → end_of w ≡ s.place
+    → insn_at p.bundles s.place ≡ Some insn → (step_by p s o way).end ≡ None
     → earlier_in_group p (walk_after p s w (step_by p s o way)) ≡ group_after (step_by p s o way).how s.place (earlier_in_group p w)
 group_by_way p s w insn o next.Falls at here goes = rw here (of (is_stopped p.bundles s.place) refl)
   where
     of : (stopped : Bool) → is_stopped p.bundles s.place ≡ stopped
-        → earlier_in_group p (if is_landing (Some insn) (how_falling stopped) then begins (step_by p s o next.Falls).state.place.bundle else goes_on w (edge_by (how_falling stopped)) (step_by p s o next.Falls).state.place)
+        → earlier_in_group p (if is_landing (Some insn) (how_falling stopped) then begins
+        (step_by p s o next.Falls).state.place.bundle else goes_on w (edge_by (how_falling stopped))
+        (step_by p s o next.Falls).state.place)
         ≡ group_after (how_falling stopped) s.place (earlier_in_group p w)
     of true e = fallen_group p w s.place (step_by p s o next.Falls).state.place true at e
     of false e = fallen_group p w s.place (step_by p s o next.Falls).state.place false at e
@@ -164,11 +173,13 @@ group_by_way p s w insn o (next.Faults kind) at here goes = absurd (cc)
 pub walks_group : WalksGroup
 walks_group p s w program known goes = of (insn_here p s known.state.place)
   where
-    of : (insn : Insn) × (insn_at p.bundles s.place ≡ Some insn) → earlier_in_group p (walk_after p s w (seq_step p s)) ≡ group_after (seq_step p s).how s.place (earlier_in_group p w)
+    of : (insn : Insn) × (insn_at p.bundles s.place ≡ Some insn) → earlier_in_group p (walk_after p s w (seq_step p s))
+        ≡ group_after (seq_step p s).how s.place (earlier_in_group p w)
     of (insn, here) =
         let same = step_here p s insn here in
         subst (λ (x : Step). earlier_in_group p (walk_after p s w x) ≡ group_after x.how s.place (earlier_in_group p w)) (sym same)
-        (group_by_way p s w insn (outcome_of p s insn) (outcome_of p s insn).next known.ends.ends here (subst (λ (x : Step). x.end ≡ None) same goes))
+        (group_by_way p s w insn (outcome_of p s insn) (outcome_of p s insn).next known.ends.ends here
+        (subst (λ (x : Step). x.end ≡ None) same goes))
 
 -- A trace further and further.
 further : (a b : ℕ) (p : Program) (t : Trace) → trace_further (a + b) p t ≡ trace_further b p (trace_further a p t)
@@ -181,44 +192,56 @@ record ComesTo (p : Program) (t : Trace) (s : State) (e : Option End) : Type 0 w
   state : (trace_further count p t).state ≡ s
   end : (trace_further count p t).end ≡ e
 
-stepped : (p : Program) (t : Trace) → t.end ≡ None → ((trace_on p t).state ≡ (seq_step p t.state).state) × ((trace_on p t).end ≡ (seq_step p t.state).end)
+stepped : (p : Program) (t : Trace) → t.end ≡ None → ((trace_on p t).state ≡ (seq_step p t.state).state)
+    × ((trace_on p t).end ≡ (seq_step p t.state).end)
 unfolding trace_on
 stepped p t none = rw none (of (seq_step p t.state).end)
   where
-    of : (e : Option End) → ((trace_by p t (seq_step p t.state) e).state ≡ (seq_step p t.state).state) × ((trace_by p t (seq_step p t.state) e).end ≡ e)
+    of : (e : Option End) → ((trace_by p t (seq_step p t.state) e).state ≡ (seq_step p t.state).state)
+        × ((trace_by p t (seq_step p t.state) e).end ≡ e)
     of None = (refl, refl)
     of (Some e) = (refl, refl)
 
 comes_later : (p : Program) (t : Trace) (s : State) (e : Option End) → ComesTo p (trace_on p t) s e → ComesTo p t s e
 comes_later p t s e c = record { count = suc c.count; state = c.state; end = c.end }
 
-group_comes : (most : ℕ) (p : Program) (t : Trace) → t.end ≡ None → ComesTo p t (group_within most p t.state).state (group_within most p t.state).end
+group_comes : (most : ℕ) (p : Program) (t : Trace) → t.end ≡ None
+    → ComesTo p t (group_within most p t.state).state (group_within most p t.state).end
 group_comes zero p t none = record { count = 0; state = refl; end = none }
 group_comes (suc most) p t none = of (seq_step p t.state).how refl (λ goes. group_comes most p (trace_on p t) goes)
   where
     of : (h : Option How) → (seq_step p t.state).how ≡ h
-        → ((trace_on p t).end ≡ None → ComesTo p (trace_on p t) (group_within most p (trace_on p t).state).state (group_within most p (trace_on p t).state).end)
-        → ComesTo p t (group_by p t.state (seq_step p t.state) h (group_within most p (seq_step p t.state).state)).state (group_by p t.state (seq_step p t.state) h (group_within most p (seq_step p t.state).state)).end
+        → ((trace_on p t).end ≡ None → ComesTo p (trace_on p t) (group_within most p (trace_on p t).state).state
+        (group_within most p (trace_on p t).state).end)
+        → ComesTo p t (group_by p t.state (seq_step p t.state) h (group_within most p (seq_step p t.state).state)).state
+        (group_by p t.state (seq_step p t.state) h (group_within most p (seq_step p t.state).state)).end
     of (Some h) is rest = let s = stepped p t none in record { count = 1; state = s.0; end = s.1 }
     of None is rest =
         let s = stepped p t none in
         let c = rest (s.1 ∙ step_goes_on p t.state is) in
-        comes_later p t _ _ (subst (λ (x : State). ComesTo p (trace_on p t) (group_within most p x).state (group_within most p x).end) s.0 c)
+        comes_later p t _ _ (subst (λ (x : State). ComesTo p (trace_on p t) (group_within most p x).state (group_within most p x).end) s.0
+        c)
 
 abbrev Seq : Program → ℕ → State → Group
 Seq p number s = seq_group p s
 
 -- The state of a run.
-run_comes : (n number : ℕ) (p : Program) (t : Trace) → t.end ≡ None → (k : ℕ) × ((trace_further k p t).state ≡ (run_from (Seq p) number n t.state).state)
+run_comes : (n number : ℕ) (p : Program) (t : Trace) → t.end ≡ None
+    → (k : ℕ) × ((trace_further k p t).state ≡ (run_from (Seq p) number n t.state).state)
 run_comes zero number p t none = (0, refl)
-run_comes (suc n) number p t none = of (seq_group p t.state).end (group_comes RUN_LIMIT p t none) (λ t goes. run_comes n (suc number) p t goes)
+run_comes (suc n) number p t none =
+    of (seq_group p t.state).end (group_comes RUN_LIMIT p t none) (λ t goes. run_comes n (suc number) p t goes)
   where
-    of : (e : Option End) → ComesTo p t (seq_group p t.state).state e → ((t : Trace) → t.end ≡ None → (k : ℕ) × ((trace_further k p t).state ≡ (run_from (Seq p) (suc number) n t.state).state))
-        → (k : ℕ) × ((trace_further k p t).state ≡ (run_by (seq_group p t.state) (event_of number t.state.place (seq_group p t.state)) e (run_from (Seq p) (suc number) n (seq_group p t.state).state)).state)
+    of : (e : Option End) → ComesTo p t (seq_group p t.state).state e
+        → ((t : Trace) → t.end ≡ None → (k : ℕ) × ((trace_further k p t).state ≡ (run_from (Seq p) (suc number) n t.state).state))
+        → (k : ℕ) × ((trace_further k p t).state ≡ (run_by (seq_group p t.state)
+        (event_of number t.state.place (seq_group p t.state)) e
+        (run_from (Seq p) (suc number) n (seq_group p t.state).state)).state)
     of (Some e) c rest = (c.count, c.state)
     of None c rest =
         let more = rest (trace_further c.count p t) c.end in
-        let same : run_from (Seq p) (suc number) n (trace_further c.count p t).state ≡ run_from (Seq p) (suc number) n (seq_group p t.state).state = ap (run_from (Seq p) (suc number) n) c.state in
+        let same : run_from (Seq p) (suc number) n (trace_further c.count p t).state ≡ run_from (Seq p)
+        (suc number) n (seq_group p t.state).state = ap (run_from (Seq p) (suc number) n) c.state in
         (c.count + more.0, ap (λ (x : Trace). x.state) (further c.count more.0 p t) ∙ more.1 ∙ ap (λ (x : Run). x.state) same)
 
 pub run_is_traced : RunIsTraced
@@ -245,9 +268,17 @@ within_apart f g r w a = record { apart = λ x y m h k. a.apart x y (w.each x y 
 true_at : (p : Program) (table : List Known) (s : State) (w : Walk) → IsSolution p table → IsKnown p s w → IsTrueAt table s
 true_at p table s w solution known = of (known_at table s.place) refl (solution s.place)
   where
-    of : (o : Option Table) → known_at table s.place ≡ o → MatchOption o (NoWalk p s.place) (λ rows. IsMeet p s.place (pairs_of rows)) → IsTrueAt table s
+    of : (o : Option Table) → known_at table s.place ≡ o → MatchOption o (NoWalk p s.place) (λ rows. IsMeet p s.place (pairs_of rows))
+        → IsTrueAt table s
     of None e none = absurd (none w known.ends)
-    of (Some rows) e meet = record { rows = rows; known = e; apart = within_apart (pairs_of rows) (facts_on p w) s.registers (meet.sound w known.ends) known.apart }
+    of (Some rows) e meet =
+        record {
+          rows = rows;
+          known = e;
+          apart = within_apart (pairs_of rows)
+              (facts_on p w) s.registers (meet.sound w known.ends) known.apart;
+        }
 
 pub solution_is_true : SolutionIsTrue
-solution_is_true n p s table program start solution = true_at p table (traced n p s).state (traced n p s).walk solution (known_on_runs n p s program start)
+solution_is_true n p s table program start solution =
+    true_at p table (traced n p s).state (traced n p s).walk solution (known_on_runs n p s program start)

@@ -44,9 +44,11 @@ RestIsGathered p most =
 abbrev From : Program → ℕ → Bool → Gathered → Option Insn → GatheredGroup
 From p most begins g x =
     gathered_by p (begins && allocates x) g (slot_outcome p g x) (slot_outcome p g x).next
-    (gathered_within most p false (gathers (begins && allocates x) g (slot_outcome p g x) (place_after g.place (next_of p.bundles g.place))))
+    (gathered_within most p false (gathers (begins && allocates x) g (slot_outcome p g x)
+    (place_after g.place (next_of p.bundles g.place))))
 
-module _ (p : Program) (program : IsProgram p) (most : ℕ) (rest : RestIsGathered p most) (first : Bool) (g : Gathered) (past : List Place) (w : Walk) (on : IsGroupOnWalk p g past w) (o : Outcome)
+module _ (p : Program) (program : IsProgram p) (most : ℕ) (rest : RestIsGathered p most) (first : Bool) (g : Gathered) (past : List Place)
+    (w : Walk) (on : IsGroupOnWalk p g past w) (o : Outcome)
     (step : seq_step p (state_of g) ≡ step_by p (state_of g) o o.next) (joins : Joins p g past o (gathers first g o)) where
   abbrev To : Place
   To = place_after g.place (next_of p.bundles g.place)
@@ -74,16 +76,20 @@ module _ (p : Program) (program : IsProgram p) (most : ℕ) (rest : RestIsGather
 
 rest_gathered : (p : Program) → IsProgram p → HasNoViolation p → (most : ℕ) → RestIsGathered p most
 rest_gathered p program free zero g past w on i c = record { past = past; way = on.way }
-rest_gathered p program free (suc most) g past w on i c = go (rest_gathered p program free most) (insn_here p (state_of g) on.known.state.place)
+rest_gathered p program free (suc most) g past w on i c =
+    go (rest_gathered p program free most) (insn_here p (state_of g) on.known.state.place)
   where
     go : RestIsGathered p most → (j : Insn) × (insn_at p.bundles g.place ≡ Some j) → IsGathered p (gathered_within (suc most) p false g).all
     go rest (j, at) =
-        let na : is_alloc (insn_action j) ≡ false = false_from_ne_true (is_alloc (insn_action j)) (no_alloc p free (state_of g) w on.known j at i c) in
+        let na : is_alloc (insn_action j) ≡ false =
+        false_from_ne_true (is_alloc (insn_action j)) (no_alloc p free (state_of g) w on.known j at i c) in
         subst (λ x. IsGathered p (From p most false g x).all) (sym at)
-        (slot_gathered p program most rest false g past w on (slot_outcome p g (Some j)) (plain_step p program free g past w on j at na) (plain_joins p program free g past w on j at na))
+        (slot_gathered p program most rest false g past w on (slot_outcome p g (Some j)) (plain_step p program free g past w on j at na)
+        (plain_joins p program free g past w on j at na))
 
 -- The whole group is gathered of slots.
-pub group_gathered : (p : Program) → IsProgram p → HasNoViolation p → (most : ℕ) (s : State) (w : Walk) → IsKnown p s w → IsGathered p (gathered_within (suc most) p true (gathered_from s)).all
+pub group_gathered : (p : Program) → IsProgram p → HasNoViolation p → (most : ℕ) (s : State) (w : Walk) → IsKnown p s w
+    → IsGathered p (gathered_within (suc most) p true (gathered_from s)).all
 group_gathered p program free most s w known = go (insn_here p s known.state.place)
   where
     g : Gathered
@@ -101,11 +107,13 @@ group_gathered p program free most s w known = go (insn_here p s known.state.pla
         by_action : (b : Bool) → is_alloc (insn_action j) ≡ b → IsGathered p (From p most true g (Some j)).all
         by_action false na =
             subst (λ b. IsGathered p (At b (slot_outcome p g (Some j))).all) (sym na)
-            (slot_gathered p program most (rest_gathered p program free most) false g [] w on (slot_outcome p g (Some j)) (plain_step p program free g [] w on j at na) (plain_joins p program free g [] w on j at na))
+            (slot_gathered p program most (rest_gathered p program free most) false g [] w on (slot_outcome p g (Some j))
+            (plain_step p program free g [] w on j at na) (plain_joins p program free g [] w on j at na))
         by_action true al =
             subst (λ b. IsGathered p (At b (slot_outcome p g (Some j))).all) (sym al)
             (subst (λ o. IsGathered p (At true o).all) (sym (alloc_outcome p program s w known j at al))
-            (slot_gathered p program most (rest_gathered p program free most) true g [] w on (outcome_of p s j) (alloc_step p program s w known j at al) (alloc_joins p program s w known j at al)))
+            (slot_gathered p program most (rest_gathered p program free most) true g [] w on (outcome_of p s j)
+            (alloc_step p program s w known j at al) (alloc_joins p program s w known j at al)))
 
 -- What a slot writes is among the writes of its group.
 
@@ -126,7 +134,8 @@ record IsNext (g : Gathered) (slot : Option Insn) (x : GatheredSlot) : Type 0 wh
 abbrev IsLater : List GatheredSlot → List GatheredSlot → GatheredSlot → Type 0
 IsLater rest ys x = (zs : List GatheredSlot) × (rest ≡ zs ++ x ∷ ys)
 
-next_or_later : (g : Gathered) (insn : Option Insn) (rest xs ys : List GatheredSlot) (x : GatheredSlot) → slot_here g insn ++ rest ≡ xs ++ x ∷ ys → IsNext g insn x ⊎ IsLater rest ys x
+next_or_later : (g : Gathered) (insn : Option Insn) (rest xs ys : List GatheredSlot) (x : GatheredSlot)
+    → slot_here g insn ++ rest ≡ xs ++ x ∷ ys → IsNext g insn x ⊎ IsLater rest ys x
 next_or_later g None rest xs ys x e = inr (xs, e)
 next_or_later g (Some insn) rest [] ys x e =
     let same : record { insn = insn; before = g } ≡ x = cc in
@@ -137,7 +146,8 @@ next_or_later g (Some insn) rest (z ∷ zs) ys x e = inr (zs, let tail : rest �
 plain_writes : (b : Bool) (g : Gathered) (o : Outcome) (to : Place) → b ≡ false → (gathers b g o to).writes ≡ g.writes ++ o.writes
 plain_writes b g o to h = subst (λ c. (gathers c g o to).writes ≡ g.writes ++ o.writes) (sym h) refl
 
-module _ (p : Program) (ys : List GatheredSlot) (x : GatheredSlot) (plain : is_alloc (insn_action x.insn) ≡ false) (v : Write) (m : Mem v (done_by p x).writes) where
+module _ (p : Program) (ys : List GatheredSlot) (x : GatheredSlot) (plain : is_alloc (insn_action x.insn) ≡ false) (v : Write)
+    (m : Mem v (done_by p x).writes) where
   -- The writes so far stay, behind the group's first slot, and what the slot writes is among those of the whole.
   abbrev IsWritten : Bool → Gathered → List GatheredSlot → Gathered → Type 0
   IsWritten begins g slots all =
@@ -146,7 +156,8 @@ module _ (p : Program) (ys : List GatheredSlot) (x : GatheredSlot) (plain : is_a
   written_none : (begins : Bool) (g : Gathered) → IsWritten begins g [] g
   written_none begins g = (λ b k. k, λ xs e. absurd (no_more xs ys x e))
 
-  written_on : (begins : Bool) (g : Gathered) (insn : Option Insn) (to : Place) (rest : List GatheredSlot) (all : Gathered) → IsOn (slot_outcome p g insn).next
+  written_on : (begins : Bool) (g : Gathered) (insn : Option Insn) (to : Place) (rest : List GatheredSlot) (all : Gathered)
+      → IsOn (slot_outcome p g insn).next
       → IsWritten false (with_slot p begins g insn to) rest all → IsWritten begins g (slot_here g insn ++ rest) all
   written_on begins g insn to rest all on later = (stays, λ xs e. written (next_or_later g insn rest xs ys x e))
     where
@@ -162,10 +173,12 @@ module _ (p : Program) (ys : List GatheredSlot) (x : GatheredSlot) (plain : is_a
       written : IsNext g insn x ⊎ IsLater rest ys x → Mem v all.writes
       written (inl n) =
           let same : o ≡ done_by p x = ap (slot_outcome p g) n.insn ∙ ap (λ h. slot_outcome p h (Some x.insn)) n.before in
-          among (and_right begins (allocates insn) (ap allocates n.insn ∙ plain)) (mem_right v g.writes o.writes (subst (λ (z : Outcome). Mem v z.writes) (sym same) m))
+          among (and_right begins (allocates insn) (ap allocates n.insn ∙ plain))
+          (mem_right v g.writes o.writes (subst (λ (z : Outcome). Mem v z.writes) (sym same) m))
       written (inr l) = later.1 l.0 l.1
 
-  pub is_written : (most : ℕ) (begins : Bool) (g : Gathered) (xs : List GatheredSlot) → slots_within most p begins g ≡ xs ++ x ∷ ys → Mem v (gathered_within most p begins g).all.writes
+  pub is_written : (most : ℕ) (begins : Bool) (g : Gathered) (xs : List GatheredSlot) → slots_within most p begins g ≡ xs ++ x ∷ ys
+      → Mem v (gathered_within most p begins g).all.writes
   is_written most begins g = (by_slots p IsWritten written_none written_on most begins g).1
 
 -- The static registers are those of the group's start.
@@ -182,6 +195,8 @@ first_statics false g o q = refl
 abbrev HasStatics : Bool → Gathered → List GatheredSlot → Gathered → Type 0
 HasStatics begins g slots all = all.base.statics ≡ g.base.statics
 
-pub base_statics : (most : ℕ) (p : Program) (begins : Bool) (g : Gathered) → (gathered_within most p begins g).all.base.statics ≡ g.base.statics
+pub base_statics : (most : ℕ) (p : Program) (begins : Bool) (g : Gathered)
+    → (gathered_within most p begins g).all.base.statics ≡ g.base.statics
 base_statics most p begins g =
-    by_slots p HasStatics (λ b h. refl) (λ b h insn to rest all on later. later ∙ first_statics (b && allocates insn) h (slot_outcome p h insn) to) most begins g
+    by_slots p HasStatics (λ b h. refl) (λ b h insn to rest all on later. later
+    ∙ first_statics (b && allocates insn) h (slot_outcome p h insn) to) most begins g

@@ -18,11 +18,13 @@ use Rattle.order_laws.proofs.Untouched.{Mem}
 -- An item of a list goes to its end.
 goes_last : {X : Type 0} (x : X) (xs : List X) → Mem x xs → (us : List X) × IsPermutation xs (us ++ x ∷ [])
 goes_last x [] m = absurd m
-goes_last x (y ∷ ys) (inl e) = (ys, subst (λ z. IsPermutation (z ∷ ys) (ys ++ x ∷ [])) e (IsPermutation-sym (ys ++ x ∷ []) (x ∷ ys) (IsPermutation-to_front ys x)))
+goes_last x (y ∷ ys) (inl e) =
+    (ys, subst (λ z. IsPermutation (z ∷ ys) (ys ++ x ∷ [])) e (IsPermutation-sym (ys ++ x ∷ []) (x ∷ ys) (IsPermutation-to_front ys x)))
 goes_last x (y ∷ ys) (inr m) = let l = goes_last x ys m in (y ∷ l.0, IsPermutation-cons y ys (l.0 ++ x ∷ []) l.1)
 
 -- A write may be made last.
-made_last : (v : Write) (ws : List Write) (r : Registers) → FitTogether ws → IsReady r ws → Mem v ws → (us : List Write) × (apply ws r ≡ put v (apply us r))
+made_last : (v : Write) (ws : List Write) (r : Registers) → FitTogether ws → IsReady r ws → Mem v ws
+    → (us : List Write) × (apply ws r ≡ put v (apply us r))
 made_last v ws r fits ready m =
     let l = goes_last v ws m in
     let code = permutation_has_code ws (l.0 ++ v ∷ []) l.1 in
@@ -59,7 +61,9 @@ last_stands (SetStatic n c) r one whole = get_or-set_same r.statics n c zero_cel
 last_stands (SetCell n c) r one whole = λ h. get_or-set_same r.cells n c zero_cell (rw whole h)
 last_stands v r one whole = tt
 
-pub writes_stand : (v : Write) (ws : List Write) (r : Registers) → FitTogether ws → IsReady r ws → IsStaticOf (length r.statics) v → IsWhole r → Mem v ws → Stands (apply ws r) v
+pub writes_stand : (v : Write) (ws : List Write) (r : Registers) → FitTogether ws → IsReady r ws → IsStaticOf (length r.statics) v
+    → IsWhole r → Mem v ws → Stands (apply ws r) v
 writes_stand v ws r fits ready one whole m =
     let l = made_last v ws r fits ready m in
-    subst (λ q. Stands q v) (sym l.1) (last_stands v (apply l.0 r) (subst (λ n. IsStaticOf n v) (sym (statics_kept l.0 r)) one) (whole_kept l.0 r whole))
+    subst (λ q. Stands q v) (sym l.1) (last_stands v (apply l.0 r) (subst (λ n. IsStaticOf n v) (sym (statics_kept l.0 r)) one)
+    (whole_kept l.0 r whole))

@@ -38,7 +38,8 @@ IsReady r ws = Each (IsCellBelow (length r.cells)) ws ⊎ Each IsNoFrame ws
 
 -- Writes that fit together leave the same in every order.
 abbrev pub OrdersLeaveTheSame : Type 0
-OrdersLeaveTheSame = (code : List ℕ) (ws : List Write) (r : Registers) → FitTogether ws → IsReady r ws → apply (arranged code ws) r ≡ apply ws r
+OrdersLeaveTheSame =
+    (code : List ℕ) (ws : List Write) (r : Registers) → FitTogether ws → IsReady r ws → apply (arranged code ws) r ≡ apply ws r
 
 -- Writes that fit together change the same frames in every order.
 abbrev pub OrdersChangeFramesTheSame : Type 0
@@ -48,7 +49,8 @@ OrdersChangeFramesTheSame = (code : List ℕ) (ws : List Write) → FitTogether 
 -- state to which a walk leads whose facts are true there.
 abbrev pub GroupIsOrdered : Type 0
 GroupIsOrdered =
-    (p : Program) (code : List ℕ) (s : State) (w : Walk) → IsProgram p → HasNoViolation p → IsKnown p s w → par_group p code s ≡ seq_group p s
+    (p : Program) (code : List ℕ) (s : State) (w : Walk) → IsProgram p → HasNoViolation p → IsKnown p s w
+    → par_group p code s ≡ seq_group p s
 
 -- The next group of each run from a start state, all at once and in any order, leaves what its slots leave one by one.
 abbrev pub NextGroupIsOrdered : Type 0

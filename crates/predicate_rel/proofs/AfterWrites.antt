@@ -38,12 +38,14 @@ IsPlain pr (SetPredicate n b) = ⊥
 IsPlain pr (SetFrame cause f) = f.rrbs.pr ≡ pr
 IsPlain pr w = Unit {0}
 
-put_plain : (pr : ℕ) (w : Write) (r : Registers) → r.frame.rrbs.pr ≡ pr → IsPlain pr w → ((put w r).frame.rrbs.pr ≡ pr) × ((put w r).predicates ≡ r.predicates)
+put_plain : (pr : ℕ) (w : Write) (r : Registers) → r.frame.rrbs.pr ≡ pr → IsPlain pr w
+    → ((put w r).frame.rrbs.pr ≡ pr) × ((put w r).predicates ≡ r.predicates)
 put_plain pr (SetPredicate n b) r e h = absurd h
 put_plain pr (SetFrame cause f) r e h = (h, refl)
 put_plain pr w r e h = (e, refl)
 
-plain_names : (pr : ℕ) (ws : List Write) (r : Registers) → r.frame.rrbs.pr ≡ pr → Each (IsPlain pr) ws → ((apply ws r).frame.rrbs.pr ≡ pr) × ((apply ws r).predicates ≡ r.predicates)
+plain_names : (pr : ℕ) (ws : List Write) (r : Registers) → r.frame.rrbs.pr ≡ pr → Each (IsPlain pr) ws
+    → ((apply ws r).frame.rrbs.pr ≡ pr) × ((apply ws r).predicates ≡ r.predicates)
 plain_names pr [] r e h = (e, refl)
 plain_names pr (w ∷ ws) r e h =
     let one = put_plain pr w r e h.0 in
@@ -69,7 +71,8 @@ put_high : (w : Write) (r : Registers) (x : ℕ) → x < 16 → IsHigh w → get
 put_high (SetPredicate n b) r x i h = get_or-set_other r.predicates n x b false (λ e. absurd (omega arith))
 put_high w r x i h = refl
 
-apply_high : (ws : List Write) (r : Registers) (x : ℕ) → x < 16 → Each IsHigh ws → get_or (apply ws r).predicates x false ≡ get_or r.predicates x false
+apply_high : (ws : List Write) (r : Registers) (x : ℕ) → x < 16 → Each IsHigh ws
+    → get_or (apply ws r).predicates x false ≡ get_or r.predicates x false
 apply_high [] r x i h = refl
 apply_high (w ∷ ws) r x i h = apply_high ws (put w r) x i h.1 ∙ put_high w r x i h.0
 
@@ -93,18 +96,23 @@ unfolding predicate_spot
 one_long f zero b s = refl
 one_long f (suc p) b s = length-set s.predicates (predicate_index f (suc p)) b
 
-one_same : (f : FrameShape) (p : ℕ) (b : Bool) (s : Registers) → s.frame ≡ f → length s.predicates ≡ 64 → p ≢ 0 → p < 64 → holds (set_one f p b s) p ≡ b
+one_same : (f : FrameShape) (p : ℕ) (b : Bool) (s : Registers) → s.frame ≡ f → length s.predicates ≡ 64 → p ≢ 0 → p < 64
+    → holds (set_one f p b s) p ≡ b
 unfolding predicate_spot holds
 one_same f zero b s e l i k = absurd (i refl)
 one_same f (suc p) b s e l i k = rw e (get_or-set_same s.predicates (predicate_index f (suc p)) b false (rw l (place_below f (suc p) k)))
 
-one_other : (f : FrameShape) → IsFrame f → (p : ℕ) (b : Bool) (s : Registers) → s.frame ≡ f → p < 64 → (x : ℕ) → x < 64 → x ≢ p → holds (set_one f p b s) x ≡ holds s x
+one_other : (f : FrameShape) → IsFrame f → (p : ℕ) (b : Bool) (s : Registers) → s.frame ≡ f → p < 64 → (x : ℕ) → x < 64 → x ≢ p
+    → holds (set_one f p b s) x ≡ holds s x
 unfolding predicate_spot holds
 one_other f h zero b s e k x i n = refl
 one_other f h (suc p) b s e k zero i n = refl
-one_other f h (suc p) b s e k (suc x) i n = rw e (get_or-set_other s.predicates (predicate_index f (suc p)) (predicate_index f (suc x)) b false (predicates_apart f h (suc x) (suc p) i k n))
+one_other f h (suc p) b s e k (suc x) i n =
+    rw e (get_or-set_other s.predicates (predicate_index f (suc p))
+    (predicate_index f (suc x)) b false (predicates_apart f h (suc x) (suc p) i k n))
 
-one_then : (f : FrameShape) (p : ℕ) (b : Bool) (ws : List Write) (s : Registers) → apply (set_predicate (predicate_spot f p) b ws) s ≡ apply ws (set_one f p b s)
+one_then : (f : FrameShape) (p : ℕ) (b : Bool) (ws : List Write) (s : Registers)
+    → apply (set_predicate (predicate_spot f p) b ws) s ≡ apply ws (set_one f p b s)
 unfolding predicate_spot
 one_then f zero b ws s = refl
 one_then f (suc p) b ws s = refl
@@ -117,7 +125,8 @@ is_target_of : (p q x : ℕ) → is_target p q x ≡ true → (x ≢ 0) × ((x �
 is_target_of p q x e = ((λ z. grind (arith, nat_tests)), grind (arith, nat_tests))
 
 -- The two writes of a test.
-module _ (s : Registers) (p q : ℕ) (b c : Bool) (frame : IsFrame s.frame) (long : length s.predicates ≡ 64) (p_small : p < 64) (q_small : q < 64) (ne : p ≢ q) where
+module _ (s : Registers) (p q : ℕ) (b c : Bool) (frame : IsFrame s.frame) (long : length s.predicates ≡ 64) (p_small : p < 64)
+    (q_small : q < 64) (ne : p ≢ q) where
   abbrev After : Registers
   After = apply (set_predicate (predicate_spot s.frame p) b (set_predicate (predicate_spot s.frame q) c [])) s
 
@@ -128,10 +137,14 @@ module _ (s : Registers) (p q : ℕ) (b c : Bool) (frame : IsFrame s.frame) (lon
   after_mid = one_then s.frame p b (set_predicate (predicate_spot s.frame q) c []) s
 
   new_other : (x : ℕ) → x < 64 → x ≢ p → x ≢ q → holds After x ≡ holds s x
-  new_other x i np nq = rw after_mid (one_other s.frame frame q c Mid (one_frame s.frame p b s) q_small x i nq ∙ one_other s.frame frame p b s refl p_small x i np)
+  new_other x i np nq =
+      rw after_mid (one_other s.frame frame q c Mid (one_frame s.frame p b s) q_small x i nq
+      ∙ one_other s.frame frame p b s refl p_small x i np)
 
   new_first : p ≢ 0 → holds After p ≡ b
-  new_first h = rw after_mid (one_other s.frame frame q c Mid (one_frame s.frame p b s) q_small p p_small ne ∙ one_same s.frame p b s refl long h p_small)
+  new_first h =
+      rw after_mid (one_other s.frame frame q c Mid (one_frame s.frame p b s) q_small p p_small ne
+      ∙ one_same s.frame p b s refl long h p_small)
 
   new_second : q ≢ 0 → holds After q ≡ c
   new_second h = rw after_mid (one_same s.frame q c Mid (one_frame s.frame p b s) (one_long s.frame p b s ∙ long) h q_small)
@@ -157,14 +170,19 @@ IsUnder mask w = ⊥
 
 masked_under : (left n mask v : ℕ) → Each (IsUnder mask) (masked_writes left n mask v)
 masked_under zero n mask v = tt
-masked_under (suc left) n mask v = may_write (IsUnder mask) (is_masked mask n) (SetPredicate n (bit v n)) (masked_writes left (suc n) mask v) (λ t. t) (masked_under left (suc n) mask v)
+masked_under (suc left) n mask v =
+    may_write (IsUnder mask) (is_masked mask n) (SetPredicate n (bit v n)) (masked_writes left (suc n) mask v) (λ t. t)
+    (masked_under left (suc n) mask v)
 
 -- What stands at the other places stays.
-put_under : (mask : ℕ) (w : Write) (r : Registers) (k : ℕ) → is_masked mask k ≡ false → IsUnder mask w → ((put w r).frame ≡ r.frame) × (get_or (put w r).predicates k false ≡ get_or r.predicates k false)
-put_under mask (SetPredicate n b) r k off on = (refl, get_or-set_other r.predicates n k b false (λ same. let e : is_masked mask k ≡ true = ap (is_masked mask) same ∙ on in cc))
+put_under : (mask : ℕ) (w : Write) (r : Registers) (k : ℕ) → is_masked mask k ≡ false → IsUnder mask w
+    → ((put w r).frame ≡ r.frame) × (get_or (put w r).predicates k false ≡ get_or r.predicates k false)
+put_under mask (SetPredicate n b) r k off on =
+    (refl, get_or-set_other r.predicates n k b false (λ same. let e : is_masked mask k ≡ true = ap (is_masked mask) same ∙ on in cc))
 put_under mask w r k off on = absurd on
 
-apply_under : (mask : ℕ) (ws : List Write) (r : Registers) (k : ℕ) → is_masked mask k ≡ false → Each (IsUnder mask) ws → ((apply ws r).frame ≡ r.frame) × (get_or (apply ws r).predicates k false ≡ get_or r.predicates k false)
+apply_under : (mask : ℕ) (ws : List Write) (r : Registers) (k : ℕ) → is_masked mask k ≡ false → Each (IsUnder mask) ws
+    → ((apply ws r).frame ≡ r.frame) × (get_or (apply ws r).predicates k false ≡ get_or r.predicates k false)
 apply_under mask [] r k off h = (refl, refl)
 apply_under mask (w ∷ ws) r k off h =
     let one = put_under mask w r k off h.0 in
@@ -202,9 +220,12 @@ pub record Turned (r : Registers) (b : Bool) (now : Registers) : Type 0 where
   pub frame : now.frame ≡ rotated r.frame
   pub predicates : now.predicates ≡ set r.predicates (predicate_index r.frame 63) b
 
-turned_by : (lc ec : Option ℕ) (p63 : Option Bool) (rotates : Bool) (b : Bool) (f : FrameShape) (n : ℕ) (r : Registers) → p63 ≡ Some b → rotates ≡ true
-    → ((apply (written SetLc lc (written SetEc ec (written (SetPredicate n) p63 (if rotates then SetFrame Renamed (rotated f) ∷ [] else [])))) r).frame ≡ rotated f)
-    × ((apply (written SetLc lc (written SetEc ec (written (SetPredicate n) p63 (if rotates then SetFrame Renamed (rotated f) ∷ [] else [])))) r).predicates ≡ set r.predicates n b)
+turned_by : (lc ec : Option ℕ) (p63 : Option Bool) (rotates : Bool) (b : Bool) (f : FrameShape) (n : ℕ) (r : Registers) → p63 ≡ Some b
+    → rotates ≡ true
+    → ((apply (written SetLc lc (written SetEc ec (written (SetPredicate n) p63
+    (if rotates then SetFrame Renamed (rotated f) ∷ [] else [])))) r).frame ≡ rotated f)
+    × ((apply (written SetLc lc (written SetEc ec (written (SetPredicate n) p63
+    (if rotates then SetFrame Renamed (rotated f) ∷ [] else [])))) r).predicates ≡ set r.predicates n b)
 turned_by lc ec None rotates b f n r e t = absurd (cc)
 turned_by lc ec (Some c) false b f n r e t = absurd (cc)
 turned_by None None (Some c) true b f n r e t = (refl, ap (set r.predicates n) (let same : c ≡ b = cc in same))
@@ -213,7 +234,9 @@ turned_by (Some j) None (Some c) true b f n r e t = (refl, ap (set r.predicates 
 turned_by (Some j) (Some k) (Some c) true b f n r e t = (refl, ap (set r.predicates n) (let same : c ≡ b = cc in same))
 
 pub turned : (t : Turn) (b : Bool) (r : Registers) → t.rotates ≡ true → t.p63 ≡ Some b → Turned r b (apply (turn_writes t r.frame) r)
-turned t b r rotates p63 = let h = turned_by t.lc t.ec t.p63 t.rotates b r.frame (predicate_index r.frame 63) r p63 rotates in record { frame = h.0; predicates = h.1 }
+turned t b r rotates p63 =
+    let h = turned_by t.lc t.ec t.p63 t.rotates b r.frame (predicate_index r.frame 63) r p63 rotates in
+    record { frame = h.0; predicates = h.1 }
 
 rotated_pr : (f : FrameShape) → (rotated f).rrbs.pr ≡ (f.rrbs.pr + 47) % 48
 unfolding rotated
@@ -239,10 +262,12 @@ before_place f h p i n = of (cases_lt p 16)
 
 -- p16 stands where p63 stood.
 last_place : (f : FrameShape) → IsFrame f → predicate_index (rotated f) 16 ≡ predicate_index f 63
-last_place f h = let r = h.predicates in rw (high_place (rotated f) 16 (omega arith), high_place f 63 (omega arith), rotated_pr f) (omega arith)
+last_place f h =
+    let r = h.predicates in rw (high_place (rotated f) 16 (omega arith), high_place f 63 (omega arith), rotated_pr f) (omega arith)
 
 module _ (r now : Registers) (b : Bool) (frame : IsFrame r.frame) (long : length r.predicates ≡ 64) (t : Turned r b now) where
-  at_place : (x : ℕ) → x ≢ 0 → holds now x ≡ get_or (set r.predicates (predicate_index r.frame 63) b) (predicate_index (rotated r.frame) x) false
+  at_place : (x : ℕ) → x ≢ 0 → holds now x ≡ get_or (set r.predicates (predicate_index r.frame 63) b)
+      (predicate_index (rotated r.frame) x) false
   at_place x n =
       holds_at_place now x n ∙ ap (λ (f : FrameShape). get_or now.predicates (predicate_index f x) false) t.frame
       ∙ ap (λ (bs : List Bool). get_or bs (predicate_index (rotated r.frame) x) false) t.predicates
@@ -258,7 +283,9 @@ module _ (r now : Registers) (b : Bool) (frame : IsFrame r.frame) (long : length
           let differ : name_before x ≢ 63 = λ w. grind (arith, nat_tests) in
           at_place x z
           ∙ ap (λ (k : ℕ). get_or (set r.predicates (predicate_index r.frame 63) b) k false) (before_place r.frame frame x i n)
-          ∙ get_or-set_other r.predicates (predicate_index r.frame 63) (predicate_index r.frame (name_before x)) b false (predicates_apart r.frame frame (name_before x) 63 below (omega arith) differ)
+          ∙ get_or-set_other r.predicates (predicate_index r.frame 63)
+          (predicate_index r.frame (name_before x)) b false (predicates_apart r.frame frame (name_before x) 63 below (omega arith)
+          differ)
           ∙ sym (holds_at_place r (name_before x) some)
 
   pub turned_last : holds now 16 ≡ b

@@ -45,13 +45,15 @@ has_bit_all y l = has_bit_one 18446744073709551615 y (bit_at_ones 64 y l)
 pub has_bit_none : (y : ℕ) → has_bit 0 y ≡ false
 has_bit_none y = has_bit_zero 0 y (bit_at-zero y)
 
-pub set_value : (n k : ℕ) (v : Bool) → k < 64 → v ≡ true → (y : ℕ) → y < 64 → has_bit (bit_or n (1 * 2 ^ k % 18446744073709551616)) y ≡ cond (eqb y k) v (has_bit n y)
+pub set_value : (n k : ℕ) (v : Bool) → k < 64 → v ≡ true → (y : ℕ) → y < 64
+    → has_bit (bit_or n (1 * 2 ^ k % 18446744073709551616)) y ≡ cond (eqb y k) v (has_bit n y)
 set_value n k v l is y m = elim (cases_eq y k) [
   | inl e ↦ rw (eq-eqb y k e, is) (rw e (has_bit_one _ k (bit_at_set_same w64 n k l)))
   | inr e ↦ rw (ne_eqb y k e) (has_bit_like _ n y (bit_at_set_other w64 n k l y e))
 ]
 
-pub clear_value : (n k : ℕ) (v : Bool) → k < 64 → v ≡ false → (y : ℕ) → y < 64 → has_bit (bit_and n (18446744073709551615 - 1 * 2 ^ k % 18446744073709551616)) y ≡ cond (eqb y k) v (has_bit n y)
+pub clear_value : (n k : ℕ) (v : Bool) → k < 64 → v ≡ false → (y : ℕ) → y < 64
+    → has_bit (bit_and n (18446744073709551615 - 1 * 2 ^ k % 18446744073709551616)) y ≡ cond (eqb y k) v (has_bit n y)
 clear_value n k v l is y m = elim (cases_eq y k) [
   | inl e ↦ rw (eq-eqb y k e, is) (rw e (has_bit_zero _ k (bit_at_clear_same w64 n k l)))
   | inr e ↦ rw (ne_eqb y k e) (has_bit_like _ n y (bit_at_clear_other w64 n k l y m e))
@@ -60,14 +62,16 @@ clear_value n k v l is y m = elim (cases_eq y k) [
 less_bit : (a b y : ℕ) → b < 2 ^ 64 → y < 64 → bit_at (bit_and a (18446744073709551615 - b)) y ≡ min (bit_at a y) (1 - bit_at b y)
 less_bit a b y h l = bit_at_and a (18446744073709551615 - b) y ∙ ap (λ (v : ℕ). min (bit_at a y) v) (bit_at_not w64 b y h l)
 
-pub none_less : (a b : ℕ) → b < 2 ^ 64 → bit_and a (18446744073709551615 - b) ≡ 0 → (y : ℕ) → y < 64 → has_bit a y ≡ true → has_bit b y ≡ true
+pub none_less : (a b : ℕ) → b < 2 ^ 64 → bit_and a (18446744073709551615 - b) ≡ 0 → (y : ℕ) → y < 64 → has_bit a y ≡ true
+    → has_bit b y ≡ true
 none_less a b h none y l t =
     let e : min (bit_at a y) (1 - bit_at b y) ≡ 0 = sym (less_bit a b y h l) ∙ ap (λ (n : ℕ). bit_at n y) none ∙ bit_at-zero y in
     let one : bit_at a y ≡ 1 = one_from a y t in
     let small : bit_at b y < 2 = bit_at-lt b y in
     has_bit_one b y (omega arith)
 
-pub some_less : (a b : ℕ) → b < 2 ^ 64 → 0 < bit_and a (18446744073709551615 - b) → bit_and a (18446744073709551615 - b) < 2 ^ 64 → (y : ℕ) × (y < 64) × (has_bit a y ≡ true) × (has_bit b y ≡ false)
+pub some_less : (a b : ℕ) → b < 2 ^ 64 → 0 < bit_and a (18446744073709551615 - b) → bit_and a (18446744073709551615 - b) < 2 ^ 64
+    → (y : ℕ) × (y < 64) × (has_bit a y ≡ true) × (has_bit b y ≡ false)
 some_less a b h some fits =
     let (below, one, rest) = bit_at-trailing_zeros w64 (bit_and a (18446744073709551615 - b)) some fits in
     let y = trailing_zeros w64 (bit_and a (18446744073709551615 - b)) in
@@ -104,8 +108,12 @@ pick false false b = and_true_l b
     and_true_l true = refl
     and_true_l false = refl
 
-pub chosen_bits : (m a b y : ℕ) → m < 2 ^ 64 → y < 64 → has_bit (bit_or (bit_and a m) (bit_and b (18446744073709551615 - m))) y ≡ cond (has_bit m y) (has_bit a y) (has_bit b y)
-chosen_bits m a b y h l = has_bit_or (bit_and a m) (bit_and b (18446744073709551615 - m)) y ∙ (rw (has_bit_and a m y, has_bit_and b (18446744073709551615 - m) y, has_bit_not m y h l) (pick (has_bit m y) (has_bit a y) (has_bit b y)))
+pub chosen_bits : (m a b y : ℕ) → m < 2 ^ 64 → y < 64 → has_bit (bit_or (bit_and a m) (bit_and b (18446744073709551615 - m))) y
+    ≡ cond (has_bit m y) (has_bit a y) (has_bit b y)
+chosen_bits m a b y h l =
+    has_bit_or (bit_and a m) (bit_and b (18446744073709551615 - m)) y
+    ∙ (rw (has_bit_and a m y, has_bit_and b (18446744073709551615 - m) y, has_bit_not m y h l)
+    (pick (has_bit m y) (has_bit a y) (has_bit b y)))
 
 -- Bits 0 to 15.
 pub has_bit_fixed : (y : ℕ) → has_bit 65535 y ≡ ltb y 16
@@ -135,7 +143,8 @@ pub lowest_there : (n : ℕ) → n ≢ 0 → n < 2 ^ 64 → has_bit n (trailing_
 lowest_there n some fits = has_bit_one n (trailing_zeros w64 n) (bit_at-trailing_zeros w64 n (omega arith) fits).1
 
 -- A word without one of its bits, which is less.
-pub without_bits : (n k y : ℕ) → k < 64 → y < 64 → has_bit (bit_and n (18446744073709551615 - 1 * 2 ^ k % 18446744073709551616)) y ≡ (not (eqb y k) && has_bit n y)
+pub without_bits : (n k y : ℕ) → k < 64 → y < 64 → has_bit (bit_and n (18446744073709551615 - 1 * 2 ^ k % 18446744073709551616)) y
+    ≡ (not (eqb y k) && has_bit n y)
 without_bits n k y l m = clear_value n k false l refl y m ∙ by_bool (eqb y k)
   where
     by_bool : (b : Bool) → cond b false (has_bit n y) ≡ (not b && has_bit n y)

@@ -16,4 +16,5 @@ row_at n (r ∷ rs) h (suc x) l = row_at n rs (and_parts (eqb r n) (rows_are n r
 
 pub shows_none : (rows : Table) → rows_are 0 rows ≡ true → length rows ≡ 64 → pairs_of rows ≡ no_pairs
 unfolding no_pairs
-shows_none rows h e = shows rows _ (λ x y a b. ap (λ (r : ℕ). has_bit r y) (row_at 0 rows h x (omega arith)) ∙ has_bit_none y) (λ x y n. refl)
+shows_none rows h e =
+    shows rows _ (λ x y a b. ap (λ (r : ℕ). has_bit r y) (row_at 0 rows h x (omega arith)) ∙ has_bit_none y) (λ x y n. refl)

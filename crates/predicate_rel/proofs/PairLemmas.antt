@@ -15,7 +15,8 @@ unfolding in_range
 in_range_parts x y h = let both = and_parts (ltb x 64) (ltb y 64) h in (ltb-true x 64 both.0, ltb-true y 64 both.1)
 
 -- A table shows a set that has the same pairs of predicates, and no other.
-pub shows : (rows : Table) (f : Pairs) → ((x y : ℕ) → x < 64 → y < 64 → truth rows x y ≡ f x y) → ((x y : ℕ) → in_range x y ≡ false → f x y ≡ false) → pairs_of rows ≡ f
+pub shows : (rows : Table) (f : Pairs) → ((x y : ℕ) → x < 64 → y < 64 → truth rows x y ≡ f x y)
+    → ((x y : ℕ) → in_range x y ≡ false → f x y ≡ false) → pairs_of rows ≡ f
 unfolding pairs_of
 shows rows f inside outside = fun_ext (λ x. fun_ext (λ y.
     ⊎_by (cases_Bool (in_range x y)) (λ t. let p = in_range_parts x y t in rw t (inside x y p.0 p.1)) (λ n. rw n (sym (outside x y n)))))
@@ -33,9 +34,11 @@ unfolding pairs_of
 pairs_of_in rows x y a b = rw (in_range_from x y a b)
 
 -- Where each pair stays, the set does.
-pub pairs_kept : (rows : Table) (rules : ℕ → ℕ → PairRule) → ((x y : ℕ) → rules x y ≡ one x y) → pairs_of rows ≡ pairs_by (pairs_of rows) rules
+pub pairs_kept : (rows : Table) (rules : ℕ → ℕ → PairRule) → ((x y : ℕ) → rules x y ≡ one x y)
+    → pairs_of rows ≡ pairs_by (pairs_of rows) rules
 pairs_kept rows rules stay = shows rows (pairs_by (pairs_of rows) rules)
-    (λ x y a b. sym (ap (λ (r : PairRule). in_range x y && is_met r (pairs_of rows)) (stay x y) ∙ (rw (in_range_from x y a b) (pairs_of_in rows x y a b))))
+    (λ x y a b. sym (ap (λ (r : PairRule). in_range x y && is_met r (pairs_of rows)) (stay x y)
+    ∙ (rw (in_range_from x y a b) (pairs_of_in rows x y a b))))
     (λ x y n. and_left (in_range x y) _ n)
 
 -- A pair of two predicates is one of predicates, also where it is written otherwise.
@@ -43,11 +46,13 @@ same_pair_out : (a b x y : ℕ) → a < 64 → b < 64 → in_range x y ≡ false
 unfolding in_range
 same_pair_out a b x y p q n = grind (arith, nat_tests, n)
 
-pub with_pair_out : (rows : Table) (a b : ℕ) → a < 64 → b < 64 → (x y : ℕ) → in_range x y ≡ false → with_pair (pairs_of rows) a b x y ≡ false
+pub with_pair_out : (rows : Table) (a b : ℕ) → a < 64 → b < 64 → (x y : ℕ) → in_range x y ≡ false
+    → with_pair (pairs_of rows) a b x y ≡ false
 unfolding with_pair
 with_pair_out rows a b p q x y n = rw (pairs_of_out rows x y n) (same_pair_out a b x y p q n)
 
 -- The bits that a pair adds to a row: each of its two in the row of the other, and in its own where the other is p0.
-pub pair_bits : (a b x y : ℕ) (f : Bool) → (((f || (eqb x a && eqb y (other_of a b))) || (eqb x (other_of a b) && eqb y a)) || (is_same_pair a (other_of a b) x 0 && eqb y x)) ≡ (f || is_same_pair a (other_of a b) x (other_of x y))
+pub pair_bits : (a b x y : ℕ) (f : Bool) → (((f || (eqb x a && eqb y (other_of a b))) || (eqb x (other_of a b) && eqb y a))
+    || (is_same_pair a (other_of a b) x 0 && eqb y x)) ≡ (f || is_same_pair a (other_of a b) x (other_of x y))
 pair_bits a b x y true = refl
 pair_bits a b x y false = grind (arith, nat_tests)

@@ -27,13 +27,16 @@ pub kept_apart : (f : Pairs) (r now : Registers) → IsBelow r now → AreNeverB
 kept_apart f r now b a = record { apart = λ x y i j m h k. a.apart x y m (b.was x i h) (b.was y j k) }
 
 -- Where a branch falls through, its qualifying predicate is 0.
-pub fallen_apart : (g : ℕ) (f : Pairs) (r now : Registers) → holds r g ≡ false → IsBelow r now → AreNeverBothOne f r → IsRuleApart (falls_rule g) f now
-fallen_apart g f r now off b a = record { apart = λ x y i j m h k. of x y (x == g) (y == g) (x == y) (g == 0) refl refl refl m (b.was x i h) (b.was y j k) }
+pub fallen_apart : (g : ℕ) (f : Pairs) (r now : Registers) → holds r g ≡ false → IsBelow r now → AreNeverBothOne f r
+    → IsRuleApart (falls_rule g) f now
+fallen_apart g f r now off b a =
+    record { apart = λ x y i j m h k. of x y (x == g) (y == g) (x == y) (g == 0) refl refl refl m (b.was x i h) (b.was y j k) }
   where
     off_at : (x : ℕ) → (x == g) ≡ true → holds r x ≡ true → ⊥
     off_at x e h = let same : x ≡ g = grind (arith, nat_tests) in let k : holds r g ≡ true = ap (holds r) (sym same) ∙ h in cc
 
-    of : (x y : ℕ) (s t u z : Bool) → (x == g) ≡ s → (y == g) ≡ t → (g == 0) ≡ z → is_met (if s || t || (u && z) then always else one x y) f ≡ true → holds r x ≡ true → holds r y ≡ true → ⊥
+    of : (x y : ℕ) (s t u z : Bool) → (x == g) ≡ s → (y == g) ≡ t → (g == 0) ≡ z
+        → is_met (if s || t || (u && z) then always else one x y) f ≡ true → holds r x ≡ true → holds r y ≡ true → ⊥
     of x y true t u z d e q m h k = off_at x d h
     of x y false true u z d e q m h k = off_at y e k
     of x y false false true true d e q m h k = off_some r g off (grind (arith, nat_tests))
@@ -41,16 +44,19 @@ fallen_apart g f r now off b a = record { apart = λ x y i j m h k. of x y (x ==
     of x y false false false z d e q m h k = a.apart x y m h k
 
 -- Where none of p1 to p15 changed.
-pub static_apart : (f : Pairs) (r now : Registers) → ((x : ℕ) → x < 16 → holds now x ≡ holds r x) → AreNeverBothOne f r → IsRuleApart static_rule f now
+pub static_apart : (f : Pairs) (r now : Registers) → ((x : ℕ) → x < 16 → holds now x ≡ holds r x) → AreNeverBothOne f r
+    → IsRuleApart static_rule f now
 static_apart f r now same a = record { apart = λ x y i j m h k. of x y (nat_lt x 16) (nat_lt y 16) refl refl m h k }
   where
-    of : (x y : ℕ) → (s t : Bool) → nat_lt x 16 ≡ s → nat_lt y 16 ≡ t → is_met (if s && t then one x y else never) f ≡ true → holds now x ≡ true → holds now y ≡ true → ⊥
+    of : (x y : ℕ) → (s t : Bool) → nat_lt x 16 ≡ s → nat_lt y 16 ≡ t → is_met (if s && t then one x y else never) f ≡ true
+        → holds now x ≡ true → holds now y ≡ true → ⊥
     of x y false t d e m h k = absurd (cc)
     of x y true false d e m h k = absurd (cc)
     of x y true true d e m h k = a.apart x y m (sym (same x (grind (arith, nat_tests))) ∙ h) (sym (same y (grind (arith, nat_tests))) ∙ k)
 
 -- After a rotation, of p16 by what is known of it.
-pub rotated_apart : (first : PairRule) (f : Pairs) (r now : Registers) → ((x : ℕ) → x < 64 → x ≢ 16 → holds now x ≡ holds r (name_before x)) → (is_met first f ≡ true → holds now 16 ≡ true → ⊥) → AreNeverBothOne f r → IsRuleApart (rotated_rule first) f now
+pub rotated_apart : (first : PairRule) (f : Pairs) (r now : Registers) → ((x : ℕ) → x < 64 → x ≢ 16 → holds now x ≡ holds r (name_before x))
+    → (is_met first f ≡ true → holds now 16 ≡ true → ⊥) → AreNeverBothOne f r → IsRuleApart (rotated_rule first) f now
 rotated_apart first f r now back last a = record { apart = λ x y i j m h k. of x y i j (x == 16) (y == 16) refl refl m h k }
   where
     at_last : (x : ℕ) → (x == 16) ≡ true → holds now x ≡ true → holds now 16 ≡ true
@@ -59,10 +65,12 @@ rotated_apart first f r now back last a = record { apart = λ x y i j m h k. of 
     not_last : (x : ℕ) → (x == 16) ≡ false → x ≢ 16
     not_last x e q = grind (arith, nat_tests)
 
-    of : (x y : ℕ) → x < 64 → y < 64 → (s t : Bool) → (x == 16) ≡ s → (y == 16) ≡ t → is_met (if s || t then first else one (name_before x) (name_before y)) f ≡ true → holds now x ≡ true → holds now y ≡ true → ⊥
+    of : (x y : ℕ) → x < 64 → y < 64 → (s t : Bool) → (x == 16) ≡ s → (y == 16) ≡ t
+        → is_met (if s || t then first else one (name_before x) (name_before y)) f ≡ true → holds now x ≡ true → holds now y ≡ true → ⊥
     of x y i j true t d e m h k = last m (at_last x d h)
     of x y i j false true d e m h k = last m (at_last y e k)
-    of x y i j false false d e m h k = a.apart (name_before x) (name_before y) m (sym (back x i (not_last x d)) ∙ h) (sym (back y j (not_last y e)) ∙ k)
+    of x y i j false false d e m h k =
+        a.apart (name_before x) (name_before y) m (sym (back x i (not_last x d)) ∙ h) (sym (back y j (not_last y e)) ∙ k)
 
 -- The reason that a predicate x that is written is 1, by what is kept of its pairs.
 abbrev pub IsReason : Kept → Registers → ℕ → ℕ → Type 0
@@ -70,7 +78,8 @@ IsReason Own r g x = holds r x ≡ true
 IsReason Guard r g x = holds r g ≡ true
 IsReason Both r g x = (holds r x ≡ true) ⊎ (holds r g ≡ true)
 
-kept_reason : (k : Kept) (f : Pairs) (r : Registers) (g a b u x : ℕ) → (f a b ≡ true → holds r x ≡ true → ⊥) → (f g u ≡ true → holds r g ≡ true → ⊥) → is_met (kept_rule k g a b u) f ≡ true → IsReason k r g x → ⊥
+kept_reason : (k : Kept) (f : Pairs) (r : Registers) (g a b u x : ℕ) → (f a b ≡ true → holds r x ≡ true → ⊥)
+    → (f g u ≡ true → holds r g ≡ true → ⊥) → is_met (kept_rule k g a b u) f ≡ true → IsReason k r g x → ⊥
 kept_reason Own f r g a b u x own guard m reason = own m reason
 kept_reason Guard f r g a b u x own guard m reason = guard m reason
 kept_reason Both f r g a b u x own guard m reason = let both = and_parts (f a b) (f g u) m in of both.0 both.1 reason
@@ -83,7 +92,8 @@ kept_reason Both f r g a b u x own guard m reason = let both = and_parts (f a b)
 partner_cases : (t : ℕ → Bool) (x y : ℕ) → ((partner t x y ≡ y) × (t x ≡ true → x ≢ y)) ⊎ ((partner t x y ≡ 0) × (t x ≡ true) × (x ≡ y))
 partner_cases t x y = of (t x) (x == y) refl refl
   where
-    of : (b c : Bool) → t x ≡ b → (x == y) ≡ c → (((if b && c then 0 else y) ≡ y) × (t x ≡ true → x ≢ y)) ⊎ (((if b && c then 0 else y) ≡ 0) × (t x ≡ true) × (x ≡ y))
+    of : (b c : Bool) → t x ≡ b → (x == y) ≡ c → (((if b && c then 0 else y) ≡ y) × (t x ≡ true → x ≢ y))
+        ⊎ (((if b && c then 0 else y) ≡ 0) × (t x ≡ true) × (x ≡ y))
     of false c d e = inl (refl, λ h. absurd (cc))
     of true false d e = inl (refl, λ h s. grind (arith, nat_tests))
     of true true d e = let same : x ≡ y = grind (arith, nat_tests) in inr (refl, d, same)
@@ -93,9 +103,11 @@ pub record IsWritten (t : ℕ → Bool) (both : ℕ → ℕ → PairRule) (kept 
   pub zero : t 0 ≡ false
   pub unwritten : (x : ℕ) → x < 64 → t x ≡ false → holds now x ≡ true → holds r x ≡ true
   pub reason : (x : ℕ) → x < 64 → t x ≡ true → holds now x ≡ true → IsReason (kept x) r g x
-  pub pair : (x y : ℕ) → x < 64 → y < 64 → t x ≡ true → t y ≡ true → x ≢ y → is_met (both x y) f ≡ true → holds now x ≡ true → holds now y ≡ true → ⊥
+  pub pair : (x y : ℕ) → x < 64 → y < 64 → t x ≡ true → t y ≡ true → x ≢ y → is_met (both x y) f ≡ true → holds now x ≡ true
+      → holds now y ≡ true → ⊥
 
-module _ (t : ℕ → Bool) (both : ℕ → ℕ → PairRule) (kept : ℕ → Kept) (g : ℕ) (f : Pairs) (r now : Registers) (w : IsWritten t both kept g f r now) (a : AreNeverBothOne f r) where
+module _ (t : ℕ → Bool) (both : ℕ → ℕ → PairRule) (kept : ℕ → Kept) (g : ℕ) (f : Pairs) (r now : Registers)
+    (w : IsWritten t both kept g f r now) (a : AreNeverBothOne f r) where
   by_tests : (x y : ℕ) → x < 64 → y < 64 → (t x ≡ true → x ≢ y) → holds now x ≡ true → holds now y ≡ true → (b c : Bool) → t x ≡ b → t y ≡ c
       → is_met (by_written b c (both x y) (kept_rule (kept x) g x y y) (kept_rule (kept y) g x y x) (one x y)) f ≡ true → ⊥
   by_tests x y i j n h k true true d e m = w.pair x y i j d e (n d) m h k
@@ -119,13 +131,16 @@ module _ (t : ℕ → Bool) (both : ℕ → ℕ → PairRule) (kept : ℕ → Ke
     where
       of : (x y : ℕ) → x < 64 → y < 64 → holds now x ≡ true → holds now y ≡ true
           → ((partner t x y ≡ y) × (t x ≡ true → x ≢ y)) ⊎ ((partner t x y ≡ 0) × (t x ≡ true) × (x ≡ y))
-          → is_met (by_written (t x) (t (partner t x y)) (both x y) (kept_rule (kept x) g x (partner t x y) (partner t x y)) (kept_rule (kept y) g x y x) (one x y)) f ≡ true → ⊥
+          → is_met (by_written (t x) (t (partner t x y)) (both x y) (kept_rule (kept x) g x (partner t x y) (partner t x y))
+          (kept_rule (kept y) g x y x) (one x y)) f ≡ true → ⊥
       of x y i j h k (inl (e, n)) m =
           by_tests x y i j n h k (t x) (t y) refl refl
-          (subst (λ (p : ℕ). is_met (by_written (t x) (t p) (both x y) (kept_rule (kept x) g x p p) (kept_rule (kept y) g x y x) (one x y)) f ≡ true) e m)
+          (subst (λ (p : ℕ). is_met (by_written (t x) (t p) (both x y) (kept_rule (kept x) g x p p) (kept_rule (kept y) g x y x) (one x y))
+          f ≡ true) e m)
       of x y i j h k (inr (e, d, s)) m =
           alone x y i h d
-          (subst (λ (p : ℕ). is_met (by_written (t x) (t p) (both x y) (kept_rule (kept x) g x p p) (kept_rule (kept y) g x y x) (one x y)) f ≡ true) e m)
+          (subst (λ (p : ℕ). is_met (by_written (t x) (t p) (both x y) (kept_rule (kept x) g x p p) (kept_rule (kept y) g x y x) (one x y))
+          f ≡ true) e m)
 
 -- Where nothing is written, all rules but that of `unc` leave what was known.
 same_reason : (kept : ℕ → Kept) (r : Registers) (g x : ℕ) → kept x ≢ Guard → holds r x ≡ true → IsReason (kept x) r g x
@@ -136,8 +151,10 @@ same_reason kept r g x n h = of (kept x) refl
     of Guard e = absurd (n e)
     of Both e = inl h
 
-pub same_written : (t : ℕ → Bool) (both : ℕ → ℕ → PairRule) (kept : ℕ → Kept) (g : ℕ) (f : Pairs) (r : Registers) → t 0 ≡ false → ((x : ℕ) → kept x ≢ Guard)
-    → ((x y : ℕ) → t x ≡ true → t y ≡ true → x ≢ y → is_met (both x y) f ≡ true → holds r x ≡ true → holds r y ≡ true → ⊥) → IsWritten t both kept g f r r
+pub same_written : (t : ℕ → Bool) (both : ℕ → ℕ → PairRule) (kept : ℕ → Kept) (g : ℕ) (f : Pairs) (r : Registers) → t 0 ≡ false
+    → ((x : ℕ) → kept x ≢ Guard)
+    → ((x y : ℕ) → t x ≡ true → t y ≡ true → x ≢ y → is_met (both x y) f ≡ true → holds r x ≡ true → holds r y ≡ true → ⊥)
+    → IsWritten t both kept g f r r
 same_written t both kept g f r z n b = record {
   zero = z;
   unwritten = λ x i d h. h;
@@ -158,10 +175,12 @@ or_andcm_not_guard p1 x = of (x == p1)
 pub raised_same : (t : ℕ → Bool) (g : ℕ) (f : Pairs) (r : Registers) → t 0 ≡ false → AreNeverBothOne f r → IsRuleApart (raised_rule t g) f r
 raised_same t g f r z a =
     written_apart t (λ x y. two x y g 0) (λ _. Both) g f r r
-    (same_written t (λ x y. two x y g 0) (λ _. Both) g f r z both_not_guard (λ x y d e s m h k. a.apart x y (and_parts (f x y) (f g 0) m).0 h k)) a
+    (same_written t (λ x y. two x y g 0) (λ _. Both) g f r z both_not_guard
+    (λ x y d e s m h k. a.apart x y (and_parts (f x y) (f g 0) m).0 h k)) a
 
 -- What is raised under a predicate that is 1.
-pub raised_written : (t : ℕ → Bool) (g : ℕ) (f : Pairs) (r now : Registers) → t 0 ≡ false → holds r g ≡ true → ((x : ℕ) → x < 64 → t x ≡ false → holds now x ≡ true → holds r x ≡ true) → AreNeverBothOne f r → IsRuleApart (raised_rule t g) f now
+pub raised_written : (t : ℕ → Bool) (g : ℕ) (f : Pairs) (r now : Registers) → t 0 ≡ false → holds r g ≡ true
+    → ((x : ℕ) → x < 64 → t x ≡ false → holds now x ≡ true → holds r x ≡ true) → AreNeverBothOne f r → IsRuleApart (raised_rule t g) f now
 raised_written t g f r now z on other a =
     written_apart t (λ x y. two x y g 0) (λ _. Both) g f r now
     (record {

@@ -45,7 +45,8 @@ abbrev closed : Site → Site
 closed s = record { bundle = s.bundle; arrival = λ _ _. Err BadLanding }
 
 -- What isn't an indirect branch does the same there.
-act_closed : (s : Site) (o : Op) (r : Registers) (m : Memory) (unat : ℕ) → is_indirect (action_of o) ≡ false → act s (action_of o) r m unat ≡ act (closed s) (action_of o) r m unat
+act_closed : (s : Site) (o : Op) (r : Registers) (m : Memory) (unat : ℕ) → is_indirect (action_of o) ≡ false
+    → act s (action_of o) r m unat ≡ act (closed s) (action_of o) r m unat
 act_closed s (op.BrInd b2 wh many clr) r m unat n = absurd (cc)
 act_closed s (op.BrRet b2 wh many clr) r m unat n = absurd (cc)
 act_closed s (op.BrCallInd b1 b2 wh many clr) r m unat n = absurd (cc)
@@ -57,7 +58,8 @@ skip_closed : (s : Site) (action : Action) (r : Registers) (m : Memory) → skip
 skip_closed s (Loop kind disp) r m = refl
 skip_closed s action r m = refl
 
-effect_closed : (s : Site) (insn : Insn) (r : Registers) (m : Memory) (unat : ℕ) → is_indirect (action_of insn.op) ≡ false → effect s insn r m unat ≡ effect (closed s) insn r m unat
+effect_closed : (s : Site) (insn : Insn) (r : Registers) (m : Memory) (unat : ℕ) → is_indirect (action_of insn.op) ≡ false
+    → effect s insn r m unat ≡ effect (closed s) insn r m unat
 effect_closed s insn r m unat n = rw (act_closed s insn.op r m unat n, skip_closed s (action_of insn.op) r m) refl
 
 -- Where an instruction in a bundle goes to: its target, or, where it is an indirect branch, an entry whose relations the
@@ -70,7 +72,8 @@ IsWayOf p bundle low insn to =
 -- An address on which a branch lands is that of an entry.
 landing_entry : (p : Program) (address : ℕ) → IfSome (landing p address) (IsEntry p)
 unfolding landing
-landing_entry p address = chosen ((address - bundle_address 0) / 16) (nat_le (bundle_address 0) address) (is_entry p ((address - bundle_address 0) / 16)) refl
+landing_entry p address =
+    chosen ((address - bundle_address 0) / 16) (nat_le (bundle_address 0) address) (is_entry p ((address - bundle_address 0) / 16)) refl
   where
     chosen : (n : ℕ) (a b : Bool) → is_entry p n ≡ b → IfSome (if a && b then Some n else None) (IsEntry p)
     chosen n true true e = (entry_decides p n).0 e
@@ -90,12 +93,14 @@ module _ (p : Program) (bundle : ℕ) (insn : Insn) (r : Registers) (m : Memory)
 
   to_entry : is_indirect (action_of insn.op) ≡ true → AreGoodLandings (IsWayOf p bundle Low insn) (site p bundle) Low
   to_entry indirect address =
-      IfOk-weaker (arrival p Low address) _ _ (λ to kept. inr (indirect, kept.0, kept.1)) (arrived_keeps p Low (landing p address) (IsEntry p) (landing_entry p address))
+      IfOk-weaker (arrival p Low address) _ _ (λ to kept. inr (indirect, kept.0, kept.1))
+      (arrived_keeps p Low (landing p address) (IsEntry p) (landing_entry p address))
 
   effect_goes : IsGoodWay (IsWayOf p bundle Low insn) (effect (site p bundle) insn r m unat)
   effect_goes = by_test (is_indirect (action_of insn.op)) refl
     where
-      by_test : (b : Bool) → is_indirect (action_of insn.op) ≡ b → IsGoodWay (IsWayOf p bundle Low insn) (effect (site p bundle) insn r m unat)
+      by_test : (b : Bool) → is_indirect (action_of insn.op) ≡ b → IsGoodWay (IsWayOf p bundle Low insn)
+          (effect (site p bundle) insn r m unat)
       by_test true e = effect_on (IsWayOf p bundle Low insn) (site p bundle) insn r m unat (to_entry e) to_target
       by_test false e = subst (IsGoodWay (IsWayOf p bundle Low insn)) (sym (effect_closed (site p bundle) insn r m unat e))
           (effect_on (IsWayOf p bundle Low insn) (closed (site p bundle)) insn r m unat (λ address. tt) to_target)
@@ -104,25 +109,30 @@ module _ (p : Program) (bundle : ℕ) (insn : Insn) (r : Registers) (m : Memory)
 abbrev LeavesPredicates : Registers → Outcome → Type 0
 LeavesPredicates r o = (registers_after o r).predicates ≡ r.predicates
 
-indirect_act : (s : Site) (action : Action) (r : Registers) (m : Memory) (unat : ℕ) → is_indirect action ≡ true → LeavesPredicates r (act s action r m unat)
+indirect_act : (s : Site) (action : Action) (r : Registers) (m : Memory) (unat : ℕ) → is_indirect action ≡ true
+    → LeavesPredicates r (act s action r m unat)
 indirect_act s (JumpIndirect b2) r m unat e = act_cases (LeavesPredicates r) s (JumpIndirect b2) r m unat (λ kind. refl, λ to k. refl)
-indirect_act s (Call b1 (Indirect b2)) r m unat e = act_cases (LeavesPredicates r) s (Call b1 (Indirect b2)) r m unat (λ kind. refl, λ to k. refl)
+indirect_act s (Call b1 (Indirect b2)) r m unat e =
+    act_cases (LeavesPredicates r) s (Call b1 (Indirect b2)) r m unat (λ kind. refl, λ to k. refl)
 indirect_act s (Return b2) r m unat e = act_cases (LeavesPredicates r) s (Return b2) r m unat (λ kind. refl, λ to k l. refl)
 indirect_act s action r m unat e = absurd (cc)
 
-indirect_skip : (s : Site) (action : Action) (r : Registers) (m : Memory) → is_indirect action ≡ true → LeavesPredicates r (skip s action r m)
+indirect_skip : (s : Site) (action : Action) (r : Registers) (m : Memory) → is_indirect action ≡ true
+    → LeavesPredicates r (skip s action r m)
 indirect_skip s (Test kind p1 p2 r2 r3 c) r m e = absurd (cc)
 indirect_skip s (Loop kind disp) r m e = absurd (cc)
 indirect_skip s action r m e = refl
 
-indirect_leaves : (s : Site) (insn : Insn) (r : Registers) (m : Memory) (unat : ℕ) → is_indirect (action_of insn.op) ≡ true → LeavesPredicates r (effect s insn r m unat)
+indirect_leaves : (s : Site) (insn : Insn) (r : Registers) (m : Memory) (unat : ℕ) → is_indirect (action_of insn.op) ≡ true
+    → LeavesPredicates r (effect s insn r m unat)
 indirect_leaves s insn r m unat e = by_guard (holds r insn.qp)
   where
     by_guard : (b : Bool) → LeavesPredicates r (if b then act s (action_of insn.op) r m unat else skip s (action_of insn.op) r m)
     by_guard true = indirect_act s (action_of insn.op) r m unat e
     by_guard false = indirect_skip s (action_of insn.op) r m e
 
-settled_leaves : (r : Registers) (next : Option Place) (m : Memory) (way : Next) (o : Outcome) → LeavesPredicates r o → LeavesPredicates r (settled next m way o)
+settled_leaves : (r : Registers) (next : Option Place) (m : Memory) (way : Next) (o : Outcome) → LeavesPredicates r o
+    → LeavesPredicates r (settled next m way o)
 settled_leaves r None m next.Falls o h = refl
 settled_leaves r next m way o h = h
 
@@ -137,7 +147,8 @@ leaving_op (op.BrCallInd b1 b2 wh many clr) h = tt
 leaving_op (op.Break unit imm) h = tt
 leaving_op o h = absurd (cc)
 
-falling_may : (s : Site) (insn : Insn) (r : Registers) (m : Memory) (unat : ℕ) → (effect s insn r m unat).next ≡ next.Falls → may_fall insn ≡ true
+falling_may : (s : Site) (insn : Insn) (r : Registers) (m : Memory) (unat : ℕ) → (effect s insn r m unat).next ≡ next.Falls
+    → may_fall insn ≡ true
 falling_may s insn r m unat e = by_tests (insn.qp == 0) (leaves (action_of insn.op)) refl refl
   where
     by_tests : (a b : Bool) → (insn.qp == 0) ≡ a → leaves (action_of insn.op) ≡ b → not (a && b) ≡ true
@@ -151,7 +162,9 @@ falling_may s insn r m unat e = by_tests (insn.qp == 0) (leaves (action_of insn.
 abbrev IsAlong : Program → State → Step → Type 0
 IsAlong p s step =
     HasEdge p s.place (edge_by step.how) step.state.place
-    ⊎ (IsSomeAnd (insn_at p.bundles s.place) IsIndirect × (step.how ≡ Some how.Taken) × (step.state.place.slot ≡ 0) × IsEntry p step.state.place.bundle × (breaks_relation p (take 16 step.state.registers.predicates) step.state.place.bundle ≡ false))
+    ⊎ (IsSomeAnd (insn_at p.bundles s.place) IsIndirect × (step.how ≡ Some how.Taken) × (step.state.place.slot ≡ 0)
+    × IsEntry p step.state.place.bundle × (breaks_relation p (take 16 step.state.registers.predicates) step.state.place.bundle
+    ≡ false))
 
 -- A fall, with a stop or without one.
 pub edge_falling : (stopped : Bool) → edge_by (how_falling stopped) ≡ Falls
@@ -180,10 +193,13 @@ module _ (p : Program) (s : State) (insn : Insn) (program : IsProgram p) (here :
   going : (bundle : ℕ) → Way bundle → IsAlong p s (step_by p s (outcome_of p s insn) (next.Goes bundle))
   going bundle (inl leads) = inl (has_edge Taken (first_of bundle) leads)
   going bundle (inr (indirect, entry, kept)) =
-      let left : (registers_after (outcome_of p s insn) s.registers).predicates ≡ s.registers.predicates = settled_leaves s.registers (next_of p.bundles s.place) s.memory Here.next Here (indirect_leaves (site p s.place.bundle) insn s.registers s.memory s.registers.unat indirect) in
+      let left : (registers_after (outcome_of p s insn) s.registers).predicates ≡ s.registers.predicates =
+      settled_leaves s.registers (next_of p.bundles s.place) s.memory Here.next Here
+      (indirect_leaves (site p s.place.bundle) insn s.registers s.memory s.registers.unat indirect) in
       inr (rw here indirect, refl, refl, entry, rw left kept)
 
-  stepping : (way : Next) → (outcome_of p s insn).next ≡ way → IsGoodNext Way way → (step_by p s (outcome_of p s insn) way).end ≡ None → IsAlong p s (step_by p s (outcome_of p s insn) way)
+  stepping : (way : Next) → (outcome_of p s insn).next ≡ way → IsGoodNext Way way → (step_by p s (outcome_of p s insn) way).end ≡ None
+      → IsAlong p s (step_by p s (outcome_of p s insn) way)
   stepping next.Falls e good goes = falling e
   stepping (next.Goes bundle) e good goes = going bundle good
   stepping (next.Breaks imm) e good goes = absurd (cc)

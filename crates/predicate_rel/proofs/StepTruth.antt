@@ -117,7 +117,8 @@ while_rotates top false ec h = counted_rotates top 0 ec h
 module _ (f : Pairs) (g : ℕ) (r : Registers) (frame : IsFrame r.frame) (long : length r.predicates ≡ 64) (a : AreNeverBothOne f r) where
   -- Writes that touch no predicate.
   plain : (ws : List Write) → Each (IsPlain r.frame.rrbs.pr) ws → IsRuleApart one f (apply ws r)
-  plain ws h = let s = apply_plain ws r h in kept_apart f r (apply ws r) (record { was = λ x i k. sym (same_holds r (apply ws r) s x) ∙ k }) a
+  plain ws h =
+      let s = apply_plain ws r h in kept_apart f r (apply ws r) (record { was = λ x i k. sym (same_holds r (apply ws r) s x) ∙ k }) a
 
   plain_spilled : (o : Option (ℕ × Bool)) (ws : List Write) → Each (IsPlain r.frame.rrbs.pr) ws → IsRuleApart one f (apply ws (spilled o r))
   plain_spilled o ws h =
@@ -142,10 +143,12 @@ module _ (f : Pairs) (g : ℕ) (r : Registers) (frame : IsFrame r.frame) (long :
   differ_not false h k = absurd (cc)
 
   module _ (p q : ℕ) (ne : p ≢ q) (p_small : p < 64) (q_small : q < 64) where
-    wrote : (b c : Bool) → TestWritten r p q b c (apply (set_predicate (predicate_spot r.frame p) b (set_predicate (predicate_spot r.frame q) c [])) r)
+    wrote : (b c : Bool) → TestWritten r p q b c (apply (set_predicate (predicate_spot r.frame p) b
+        (set_predicate (predicate_spot r.frame q) c [])) r)
     wrote b c = test_written r p q b c frame long p_small q_small ne
 
-    test_on : (kind : CmpKind) (x : Option Bool) → holds r g ≡ true → IsRuleApart (test_rule kind p q g) f (apply (test_writes kind (predicate_spot r.frame p) (predicate_spot r.frame q) x) r)
+    test_on : (kind : CmpKind) (x : Option Bool) → holds r g ≡ true
+        → IsRuleApart (test_rule kind p q g) f (apply (test_writes kind (predicate_spot r.frame p) (predicate_spot r.frame q) x) r)
     test_on cmp.Normal (Some b) on = normal_written p q g b (not b) f r _ (wrote b (not b)) ne a on (differ_not b)
     test_on cmp.Normal None on = normal_written p q g false false f r _ (wrote false false) ne a on (λ h k. cc)
     test_on cmp.Unc (Some b) on = unc_written p q g b (not b) f r _ (wrote b (not b)) ne a on (differ_not b)
@@ -160,12 +163,16 @@ module _ (f : Pairs) (g : ℕ) (r : Registers) (frame : IsFrame r.frame) (long :
     test_on cmp.OrAndcm (Some false) on = or_andcm_same p q g f r a
     test_on cmp.OrAndcm None on = or_andcm_same p q g f r a
 
-    test_cleared : (kind : CmpKind) → kind ≡ cmp.Unc → IsRuleApart (test_rule kind p q g) f (apply (set_predicate (predicate_spot r.frame p) false (set_predicate (predicate_spot r.frame q) false [])) r)
-    test_cleared kind e = subst (λ (k : CmpKind). IsRuleApart (test_rule k p q g) f (apply (set_predicate (predicate_spot r.frame p) false (set_predicate (predicate_spot r.frame q) false [])) r)) (sym e)
+    test_cleared : (kind : CmpKind) → kind ≡ cmp.Unc → IsRuleApart (test_rule kind p q g) f
+        (apply (set_predicate (predicate_spot r.frame p) false (set_predicate (predicate_spot r.frame q) false [])) r)
+    test_cleared kind e =
+        subst (λ (k : CmpKind). IsRuleApart (test_rule k p q g) f (apply
+        (set_predicate (predicate_spot r.frame p) false (set_predicate (predicate_spot r.frame q) false [])) r)) (sym e)
         (unc_cleared p q g false false f r _ (wrote false false) ne a refl refl)
 
   -- loop branches.
-  rotation : (t : Turn) (b : Bool) (first : PairRule) → IsRotation t b → (is_met first f ≡ true → b ≡ false) → IsRuleApart (rotated_rule first) f (apply (turn_writes t r.frame) r)
+  rotation : (t : Turn) (b : Bool) (first : PairRule) → IsRotation t b → (is_met first f ≡ true → b ≡ false)
+      → IsRuleApart (rotated_rule first) f (apply (turn_writes t r.frame) r)
   rotation t b first is low =
       let now = turned t b r is.rotates is.p63 in
       rotated_apart first f r (apply (turn_writes t r.frame) r) (turned_holds r (apply (turn_writes t r.frame) r) b frame long now)
@@ -174,10 +181,12 @@ module _ (f : Pairs) (g : ℕ) (r : Registers) (frame : IsFrame r.frame) (long :
   static_turn : (t : Turn) → IsRuleApart static_rule f (apply (turn_writes t r.frame) r)
   static_turn t = static (turn_writes t r.frame) (turn_high t r.frame)
 
-  counted_rotation : (top : Bool) (lc ec : ℕ) → (counted_turn top lc ec).taken ≡ top → IsRuleApart (rotated_rule never) f (apply (turn_writes (counted_turn top lc ec) r.frame) r)
+  counted_rotation : (top : Bool) (lc ec : ℕ) → (counted_turn top lc ec).taken ≡ top
+      → IsRuleApart (rotated_rule never) f (apply (turn_writes (counted_turn top lc ec) r.frame) r)
   counted_rotation top lc ec h = rotation (counted_turn top lc ec) (counts_on lc) never (counted_rotates top lc ec h) (λ m. absurd (cc))
 
-  while_rotation : (top qp : Bool) (ec : ℕ) → (while_turn top qp ec).taken ≡ top → IsRuleApart (rotated_rule always) f (apply (turn_writes (while_turn top qp ec) r.frame) r)
+  while_rotation : (top qp : Bool) (ec : ℕ) → (while_turn top qp ec).taken ≡ top
+      → IsRuleApart (rotated_rule always) f (apply (turn_writes (while_turn top qp ec) r.frame) r)
   while_rotation top qp ec h = rotation (while_turn top qp ec) false always (while_rotates top qp ec h) (λ m. refl)
 
   simple_kept : (lc : ℕ) → IsRuleApart one f (apply (turn_writes (simple_turn lc) r.frame) r)
@@ -185,14 +194,17 @@ module _ (f : Pairs) (g : ℕ) (r : Registers) (frame : IsFrame r.frame) (long :
   simple_kept (suc lc) = plain (SetLc lc ∷ []) (tt, tt)
 
   -- Of a loop branch, taken and falling; a counted one has no qualifying predicate.
-  loop_keeps : (qp : Bool) → holds r g ≡ qp → (kind : BranchKind) (disp : ℤ) (bundle : ℕ) (m : Memory) → IsQualifier kind g → TurnCases (Keeps f (Loop kind disp) g r) (turn_of kind qp r.lc r.ec) r.frame bundle m
+  loop_keeps : (qp : Bool) → holds r g ≡ qp → (kind : BranchKind) (disp : ℤ) (bundle : ℕ) (m : Memory) → IsQualifier kind g
+      → TurnCases (Keeps f (Loop kind disp) g r) (turn_of kind qp r.lc r.ec) r.frame bundle m
   loop_keeps qp is branch.Cond disp bundle m q = (λ t d. plain [] tt, λ t. plain [] tt)
   loop_keeps qp is branch.Wexit disp bundle m q = (λ t d. static_turn (while_turn false qp r.ec), λ t. while_rotation false qp r.ec t)
   loop_keeps qp is branch.Wtop disp bundle m q = (λ t d. while_rotation true qp r.ec t, λ t. static_turn (while_turn true qp r.ec))
   loop_keeps true is branch.Cloop disp bundle m q = (λ t d. simple_kept r.lc, λ t. simple_kept r.lc)
   loop_keeps false is branch.Cloop disp bundle m q = (λ t d. plain [] tt, λ t. plain [] tt)
-  loop_keeps true is branch.Cexit disp bundle m q = (λ t d. static_turn (counted_turn false r.lc r.ec), λ t. counted_rotation false r.lc r.ec t)
-  loop_keeps true is branch.Ctop disp bundle m q = (λ t d. counted_rotation true r.lc r.ec t, λ t. static_turn (counted_turn true r.lc r.ec))
+  loop_keeps true is branch.Cexit disp bundle m q =
+      (λ t d. static_turn (counted_turn false r.lc r.ec), λ t. counted_rotation false r.lc r.ec t)
+  loop_keeps true is branch.Ctop disp bundle m q =
+      (λ t d. counted_rotation true r.lc r.ec t, λ t. static_turn (counted_turn true r.lc r.ec))
   loop_keeps false is branch.Cexit disp bundle m q = absurd (off_some r g is q)
   loop_keeps false is branch.Ctop disp bundle m q = absurd (off_some r g is q)
 
@@ -203,7 +215,8 @@ module _ (f : Pairs) (g : ℕ) (r : Registers) (frame : IsFrame r.frame) (long :
   application_keeps ar.Ec r2 w v m = plain (SetEc (v % 64) ∷ []) (tt, tt)
 
   -- Of an action that is executed.
-  act_keeps : (s : Site) (action : Action) (m : Memory) (unat : ℕ) → HasNames g action → holds r g ≡ true → ActCases (Keeps f action g r) s action r m unat
+  act_keeps : (s : Site) (action : Action) (m : Memory) (unat : ℕ) → HasNames g action → holds r g ≡ true
+      → ActCases (Keeps f action g r) s action r m unat
   act_keeps s (Compute r1 r2 r3 h) m unat n on = (λ k. tt, λ d b c _ _ _. plain _ (spot_plain _ d _ [] tt))
   act_keeps s (Fetch r1 source) m unat n on = (λ k. tt, λ d _. plain _ (spot_plain _ d _ [] tt))
   act_keeps s (Test kind p1 p2 r2 r3 h) m unat n on = (λ k. tt, λ b c _ _. test_on p1 p2 n.0 n.1 n.2 kind (result_of h b c) on)
@@ -219,13 +232,18 @@ module _ (f : Pairs) (g : ℕ) (r : Registers) (frame : IsFrame r.frame) (long :
       hits = λ _ _ _ es _. plain _ (base_plain _ u e base more);
     },
   )
-  act_keeps s (ToMemory size kind r3 r2 u) m unat n on = (λ k. tt, λ e base x _ _ _ _ _ _. plain_spilled _ _ (base_plain _ u e base zero_cell))
+  act_keeps s (ToMemory size kind r3 r2 u) m unat n on =
+      (λ k. tt, λ e base x _ _ _ _ _ _. plain_spilled _ _ (base_plain _ u e base zero_cell))
   act_keeps s (Exchange size r1 r3 r2 inc) m unat n on = (λ k. tt, λ d base x _ _ _ _ _ _. plain _ (spot_plain _ d _ [] tt))
   act_keeps s (CheckNat r2 disp) m unat n on = (λ k. tt, λ b _ _ d. still, λ b _ _. still)
   act_keeps s (CheckAlat clear r1 disp) m unat n on = (λ k. tt, λ d _ _ t. still, λ d _ _ es _. still)
   act_keeps s InvalidateAll m unat n on = still
   act_keeps s (Invalidate r1) m unat n on = (λ k. tt, λ d _. still)
-  act_keeps s (Allocate r1 sof sol sor) m unat n on = (λ k. tt, λ d _ _ _. plain (SetFrame Resized (with_sizes r.frame sof sol sor) ∷ set_spot d (record { value = r.pfs; nat = false }) []) (refl, spot_plain _ d _ [] tt))
+  act_keeps s (Allocate r1 sof sol sor) m unat n on = (
+    λ k. tt,
+    λ d _ _ _. plain (SetFrame Resized (with_sizes r.frame sof sol sor) ∷ set_spot d (record { value = r.pfs; nat = false }) [])
+        (refl, spot_plain _ d _ [] tt),
+  )
   act_keeps s (Jump disp) m unat n on = λ d. still
   act_keeps s (JumpIndirect b2) m unat n on = (λ k. tt, λ to _ d. absurd (cc))
   act_keeps s (Loop kind disp) m unat n on = loop_keeps true on kind disp (target_of s.bundle disp) m n
@@ -237,7 +255,8 @@ module _ (f : Pairs) (g : ℕ) (r : Registers) (frame : IsFrame r.frame) (long :
   act_keeps s (Idle unit) m unat n on = still
 
   -- Of one that isn't.
-  skip_keeps : (s : Site) (action : Action) (m : Memory) → HasNames g action → holds r g ≡ false → SkipCases (Keeps f action g r) s action r m
+  skip_keeps : (s : Site) (action : Action) (m : Memory) → HasNames g action → holds r g ≡ false
+      → SkipCases (Keeps f action g r) s action r m
   skip_keeps s (Test kind p1 p2 r2 r3 h) m n off = (λ e. test_cleared p1 p2 n.0 n.1 n.2 kind e, λ e. test_off kind p1 p2 g f r off e a)
   skip_keeps s (ToPredicates r2 mask w) m n off = raised_same (is_moved mask) g f r refl a
   skip_keeps s (Jump disp) m n off = fallen off
@@ -250,7 +269,8 @@ module _ (f : Pairs) (g : ℕ) (r : Registers) (frame : IsFrame r.frame) (long :
   skip_keeps s action m n off = still
 
 -- The rules of all pairs, as the set that they leave.
-rules_apart : (f : Pairs) (insn : Insn) (e : Edge) (now : Registers) → IsRuleApart (action_rule (action_of insn.op) e insn.qp) f now → AreNeverBothOne (pairs_after f insn e) now
+rules_apart : (f : Pairs) (insn : Insn) (e : Edge) (now : Registers) → IsRuleApart (action_rule (action_of insn.op) e insn.qp) f now
+    → AreNeverBothOne (pairs_after f insn e) now
 unfolding pairs_after rule_of
 rules_apart f insn e now h = record {
   apart = λ x y m i j.
@@ -261,9 +281,11 @@ rules_apart f insn e now h = record {
 
 -- What is shown of a step.
 abbrev KeepsAlong : Program → State → Pairs → Step → Type 0
-KeepsAlong p s f step = HasEdge p s.place (edge_by step.how) step.state.place → AreNeverBothOne (pairs_past p s.place (edge_by step.how) f) step.state.registers
+KeepsAlong p s f step =
+    HasEdge p s.place (edge_by step.how) step.state.place → AreNeverBothOne (pairs_past p s.place (edge_by step.how) f) step.state.registers
 
-module _ (p : Program) (s : State) (f : Pairs) (insn : Insn) (program : IsProgram p) (is : IsState p s) (here : insn_at p.bundles s.place ≡ Some insn) (a : AreNeverBothOne f s.registers) where
+module _ (p : Program) (s : State) (f : Pairs) (insn : Insn) (program : IsProgram p) (is : IsState p s)
+    (here : insn_at p.bundles s.place ≡ Some insn) (a : AreNeverBothOne f s.registers) where
   abbrev Here : Outcome
   Here = effect (site p s.place.bundle) insn s.registers s.memory s.registers.unat
 
@@ -272,11 +294,13 @@ module _ (p : Program) (s : State) (f : Pairs) (insn : Insn) (program : IsProgra
       let n = has_names insn.qp insn.op (listed_at p s.place insn program here) in
       let frame = is.registers.frame in
       let long = is.registers.predicate_count in
-      guarded_cases (Keeps f (action_of insn.op) insn.qp s.registers) (site p s.place.bundle) insn.qp (action_of insn.op) s.registers s.memory s.registers.unat
+      guarded_cases (Keeps f (action_of insn.op) insn.qp s.registers)
+      (site p s.place.bundle) insn.qp (action_of insn.op) s.registers s.memory s.registers.unat
       (act_keeps f insn.qp s.registers frame long a (site p s.place.bundle) (action_of insn.op) s.memory s.registers.unat n)
       (skip_keeps f insn.qp s.registers frame long a (site p s.place.bundle) (action_of insn.op) s.memory n)
 
-  settled_keeps : (to : Option Place) (way : Next) (o : Outcome) → o.next ≡ way → Keeps f (action_of insn.op) insn.qp s.registers o → Keeps f (action_of insn.op) insn.qp s.registers (settled to s.memory way o)
+  settled_keeps : (to : Option Place) (way : Next) (o : Outcome) → o.next ≡ way → Keeps f (action_of insn.op) insn.qp s.registers o
+      → Keeps f (action_of insn.op) insn.qp s.registers (settled to s.memory way o)
   settled_keeps None next.Falls o e h = tt
   settled_keeps None (next.Goes bundle) o e h = h
   settled_keeps None (next.Breaks imm) o e h = h
@@ -300,14 +324,22 @@ module _ (p : Program) (s : State) (f : Pairs) (insn : Insn) (program : IsProgra
   unfolding pairs_past
   past_here e now h = subst (λ (o : Option Insn). AreNeverBothOne (pairs_past_insn o e f) now) (sym here) h
 
-  stepping : (o : Outcome) (way : Next) → KeepsOn f (action_of insn.op) insn.qp (registers_after o s.registers) way → (step_by p s o way).end ≡ None → KeepsAlong p s f (step_by p s o way)
-  stepping o next.Falls h goes = λ edge. subst (λ (e : Edge). AreNeverBothOne (pairs_past p s.place e f) (registers_after o s.registers)) (sym (edge_falling (is_stopped p.bundles s.place))) (past_here Falls (registers_after o s.registers) (rules_apart f insn Falls (registers_after o s.registers) h))
-  stepping o (next.Goes bundle) h goes = λ edge. past_here Taken (registers_after o s.registers) (rules_apart f insn Taken (registers_after o s.registers) (h (has_target (first_of bundle) (edge_leads Taken (first_of bundle) edge))))
+  stepping : (o : Outcome) (way : Next) → KeepsOn f (action_of insn.op) insn.qp (registers_after o s.registers) way
+      → (step_by p s o way).end ≡ None → KeepsAlong p s f (step_by p s o way)
+  stepping o next.Falls h goes =
+      λ edge. subst (λ (e : Edge). AreNeverBothOne (pairs_past p s.place e f) (registers_after o s.registers))
+      (sym (edge_falling (is_stopped p.bundles s.place))) (past_here Falls (registers_after o s.registers)
+      (rules_apart f insn Falls (registers_after o s.registers) h))
+  stepping o (next.Goes bundle) h goes =
+      λ edge. past_here Taken (registers_after o s.registers) (rules_apart f insn Taken (registers_after o s.registers)
+      (h (has_target (first_of bundle) (edge_leads Taken (first_of bundle) edge))))
   stepping o (next.Breaks imm) h goes = absurd (cc)
   stepping o (next.Faults kind) h goes = absurd (cc)
 
   keeps_here : (step_of p s (Some insn)).end ≡ None → KeepsAlong p s f (step_of p s (Some insn))
-  keeps_here goes = stepping (outcome_of p s insn) (outcome_of p s insn).next (settled_keeps (next_of p.bundles s.place) Here.next Here refl here_keeps) goes
+  keeps_here goes =
+      stepping (outcome_of p s insn) (outcome_of p s insn).next (settled_keeps (next_of p.bundles s.place) Here.next Here refl here_keeps)
+      goes
 
 pub keeps_apart : KeepsFacts
 keeps_apart p s f program is goes edge a =

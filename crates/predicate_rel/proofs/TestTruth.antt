@@ -17,7 +17,8 @@ both_targets : (p q x y : ℕ) → is_target p q x ≡ true → is_target p q y 
 both_targets p q x y d e n = grind (arith, nat_tests)
 
 -- A normal test that isn't executed leaves both.
-normal_same_targets : (p q g x y : ℕ) (f : Pairs) (r : Registers) → holds r g ≡ false → AreNeverBothOne f r → is_target p q x ≡ true → is_target p q y ≡ true → x ≢ y → is_met (normal_targets p q g) f ≡ true → holds r x ≡ true → holds r y ≡ true → ⊥
+normal_same_targets : (p q g x y : ℕ) (f : Pairs) (r : Registers) → holds r g ≡ false → AreNeverBothOne f r → is_target p q x ≡ true
+    → is_target p q y ≡ true → x ≢ y → is_met (normal_targets p q g) f ≡ true → holds r x ≡ true → holds r y ≡ true → ⊥
 normal_same_targets p q g x y f r off a d e n m h k = by_guard (g == 0) refl m
   where
     by_order : ((x ≡ p) × (y ≡ q)) ⊎ ((x ≡ q) × (y ≡ p)) → f p q ≡ true → ⊥
@@ -41,10 +42,12 @@ or_andcm_same p q g f r a =
     (same_written (is_target p q) one (or_andcm_kept p) g f r refl (or_andcm_not_guard p) (λ x y d e s m h k. a.apart x y m h k)) a
 
 -- A test that isn't executed.
-pub test_off : (kind : CmpKind) (p q g : ℕ) (f : Pairs) (r : Registers) → holds r g ≡ false → kind ≢ cmp.Unc → AreNeverBothOne f r → IsRuleApart (test_rule kind p q g) f r
+pub test_off : (kind : CmpKind) (p q g : ℕ) (f : Pairs) (r : Registers) → holds r g ≡ false → kind ≢ cmp.Unc → AreNeverBothOne f r
+    → IsRuleApart (test_rule kind p q g) f r
 test_off cmp.Normal p q g f r off n a =
     written_apart (is_target p q) (λ _ _. normal_targets p q g) (λ _. Both) g f r r
-    (same_written (is_target p q) (λ _ _. normal_targets p q g) (λ _. Both) g f r refl both_not_guard (λ x y d e s m h k. normal_same_targets p q g x y f r off a d e s m h k)) a
+    (same_written (is_target p q) (λ _ _. normal_targets p q g) (λ _. Both) g f r refl both_not_guard
+    (λ x y d e s m h k. normal_same_targets p q g x y f r off a d e s m h k)) a
 test_off cmp.Unc p q g f r off n a = absurd (n refl)
 test_off cmp.Or p q g f r off n a = or_same p q g f r a
 test_off cmp.And p q g f r off n a = and_same p q g f r a
@@ -56,12 +59,14 @@ pub record TestWritten (r : Registers) (p q : ℕ) (b c : Bool) (now : Registers
   pub target : (x : ℕ) → is_target p q x ≡ true → ((x ≡ p) × (holds now x ≡ b)) ⊎ ((x ≡ q) × (holds now x ≡ c))
 
 -- A test that writes b and c into its targets p and q.
-module _ (p q g : ℕ) (b c : Bool) (f : Pairs) (r now : Registers) (w : TestWritten r p q b c now) (ne : p ≢ q) (a : AreNeverBothOne f r) where
+module _ (p q g : ℕ) (b c : Bool) (f : Pairs) (r now : Registers) (w : TestWritten r p q b c now) (ne : p ≢ q)
+    (a : AreNeverBothOne f r) where
   unwritten : (x : ℕ) → x < 64 → is_target p q x ≡ false → holds now x ≡ true → holds r x ≡ true
   unwritten x i d h = sym (w.other x i d) ∙ h
 
   -- Both don't become 1.
-  targets_apart : (b ≡ true → c ≡ true → ⊥) → (x y : ℕ) → is_target p q x ≡ true → is_target p q y ≡ true → x ≢ y → holds now x ≡ true → holds now y ≡ true → ⊥
+  targets_apart : (b ≡ true → c ≡ true → ⊥) → (x y : ℕ) → is_target p q x ≡ true → is_target p q y ≡ true → x ≢ y → holds now x ≡ true
+      → holds now y ≡ true → ⊥
   targets_apart differ x y d e n h k = of (w.target x d) (w.target y e)
     where
       of : ((x ≡ p) × (holds now x ≡ b)) ⊎ ((x ≡ q) × (holds now x ≡ c)) → ((y ≡ p) × (holds now y ≡ b)) ⊎ ((y ≡ q) × (holds now y ≡ c)) → ⊥
@@ -81,17 +86,32 @@ module _ (p q g : ℕ) (b c : Bool) (f : Pairs) (r now : Registers) (w : TestWri
   pub normal_written : holds r g ≡ true → (b ≡ true → c ≡ true → ⊥) → IsRuleApart (test_rule cmp.Normal p q g) f now
   normal_written on differ =
       written_apart (is_target p q) (λ _ _. normal_targets p q g) (λ _. Both) g f r now
-      (record { zero = refl; unwritten = unwritten; reason = λ x i d h. inr on; pair = λ x y i j d e s m h k. targets_apart differ x y d e s h k }) a
+      (record {
+        zero = refl;
+        unwritten = unwritten;
+        reason = λ x i d h. inr on;
+        pair = λ x y i j d e s m h k. targets_apart differ x y d e s h k;
+      }) a
 
   pub unc_written : holds r g ≡ true → (b ≡ true → c ≡ true → ⊥) → IsRuleApart (test_rule cmp.Unc p q g) f now
   unc_written on differ =
       written_apart (is_target p q) (λ _ _. always) (λ _. Guard) g f r now
-      (record { zero = refl; unwritten = unwritten; reason = λ x i d h. on; pair = λ x y i j d e s m h k. targets_apart differ x y d e s h k }) a
+      (record {
+        zero = refl;
+        unwritten = unwritten;
+        reason = λ x i d h. on;
+        pair = λ x y i j d e s m h k. targets_apart differ x y d e s h k;
+      }) a
 
   pub unc_cleared : b ≡ false → c ≡ false → IsRuleApart (test_rule cmp.Unc p q g) f now
   unc_cleared i j =
       written_apart (is_target p q) (λ _ _. always) (λ _. Guard) g f r now
-      (record { zero = refl; unwritten = unwritten; reason = λ x k d h. absurd (target_cleared i j x d h); pair = λ x y k l d e s m h n. target_cleared i j x d h }) a
+      (record {
+        zero = refl;
+        unwritten = unwritten;
+        reason = λ x k d h. absurd (target_cleared i j x d h);
+        pair = λ x y k l d e s m h n. target_cleared i j x d h;
+      }) a
 
   pub or_written : holds r g ≡ true → IsRuleApart (test_rule cmp.Or p q g) f now
   or_written on = raised_written (is_target p q) g f r now refl on unwritten a
@@ -106,7 +126,12 @@ module _ (p q g : ℕ) (b c : Bool) (f : Pairs) (r now : Registers) (w : TestWri
   pub or_andcm_written : holds r g ≡ true → c ≡ false → IsRuleApart (test_rule cmp.OrAndcm p q g) f now
   or_andcm_written on j =
       written_apart (is_target p q) one (or_andcm_kept p) g f r now
-      (record { zero = refl; unwritten = unwritten; reason = λ x i d h. reason x d h (x == p) refl; pair = λ x y i k d e s m h l. targets_apart (λ u v. cc) x y d e s h l }) a
+      (record {
+        zero = refl;
+        unwritten = unwritten;
+        reason = λ x i d h. reason x d h (x == p) refl;
+        pair = λ x y i k d e s m h l. targets_apart (λ u v. cc) x y d e s h l;
+      }) a
     where
       reason : (x : ℕ) → is_target p q x ≡ true → holds now x ≡ true → (t : Bool) → (x == p) ≡ t → IsReason (if t then Both else Own) r g x
       reason x d h true e = inr on

@@ -24,7 +24,8 @@ record KeepsOrder (r : ℕ → ℕ → PairRule) (f : Pairs) : Type 0 where
   alone : (x : ℕ) → is_met (r x x) f ≡ is_met (r x 0) f
 
 -- A predicate and itself may be swapped, so `swaps` is to be shown of two different ones.
-swaps_apart : (r : ℕ → ℕ → PairRule) (f : Pairs) → ((x y : ℕ) → x ≢ y → is_met (r x y) f ≡ is_met (r y x) f) → (x y : ℕ) → is_met (r x y) f ≡ is_met (r y x) f
+swaps_apart : (r : ℕ → ℕ → PairRule) (f : Pairs) → ((x y : ℕ) → x ≢ y → is_met (r x y) f ≡ is_met (r y x) f) → (x y : ℕ)
+    → is_met (r x y) f ≡ is_met (r y x) f
 swaps_apart r f apart x y = elim (cases_eq x y) [
   | inl e ↦ ap (λ (k : ℕ). is_met (r k y) f) e ∙ sym (ap (λ (k : ℕ). is_met (r y k) f) e)
   | inr ne ↦ apart x y ne
@@ -58,18 +59,21 @@ kept_swaps Guard g x y u f un = refl
 kept_swaps Both g x y u f un = ap (λ (b : Bool). b && f g u) (un.swaps x y)
 
 -- A choice between four rules may be swapped.
-choice_swaps : (a b : Bool) (r r' s s' t t' n n' : PairRule) (f : Pairs) → is_met r f ≡ is_met r' f → is_met s f ≡ is_met t' f → is_met t f ≡ is_met s' f → is_met n f ≡ is_met n' f → is_met (by_written a b r s t n) f ≡ is_met (by_written b a r' s' t' n') f
+choice_swaps : (a b : Bool) (r r' s s' t t' n n' : PairRule) (f : Pairs) → is_met r f ≡ is_met r' f → is_met s f ≡ is_met t' f
+    → is_met t f ≡ is_met s' f → is_met n f ≡ is_met n' f → is_met (by_written a b r s t n) f ≡ is_met (by_written b a r' s' t' n') f
 choice_swaps true true r r' s s' t t' n n' f h i j k = h
 choice_swaps true false r r' s s' t t' n n' f h i j k = i
 choice_swaps false true r r' s s' t t' n n' f h i j k = j
 choice_swaps false false r r' s s' t t' n n' f h i j k = k
 
 -- The rules of tests and moves, where the rule of two written predicates says the same of both orders.
-written_keeps : (t : ℕ → Bool) (both : ℕ → ℕ → PairRule) (kept : ℕ → Kept) (g : ℕ) (f : Pairs) → t 0 ≡ false → ((x y : ℕ) → is_met (both x y) f ≡ is_met (both y x) f) → IsUnordered f → KeepsOrder (written_rule t both kept g) f
+written_keeps : (t : ℕ → Bool) (both : ℕ → ℕ → PairRule) (kept : ℕ → Kept) (g : ℕ) (f : Pairs) → t 0 ≡ false
+    → ((x y : ℕ) → is_met (both x y) f ≡ is_met (both y x) f) → IsUnordered f → KeepsOrder (written_rule t both kept g) f
 written_keeps t both kept g f zero same un = record {
   swaps = swaps_apart (written_rule t both kept g) f (λ x y ne.
       rw (partner_apart t x y ne, partner_apart t y x (λ e. ne (sym e)))
-      (choice_swaps (t x) (t y) (both x y) (both y x) (kept_rule (kept x) g x y y) (kept_rule (kept y) g y x x) (kept_rule (kept y) g x y x) (kept_rule (kept x) g y x y) (one x y) (one y x) f
+      (choice_swaps (t x) (t y) (both x y) (both y x) (kept_rule (kept x) g x y y) (kept_rule (kept y) g y x x) (kept_rule (kept y) g x y x)
+      (kept_rule (kept x) g y x y) (one x y) (one y x) f
       (same x y) (kept_swaps (kept x) g x y y f un) (kept_swaps (kept y) g x y x f un) (un.swaps x y)));
   alone = λ x. by_bool x (t x) refl;
 }
@@ -80,7 +84,8 @@ written_keeps t both kept g f zero same un = record {
 
 -- The rules of or-compares and moves, of all tests, of branches and of rotations.
 raised_keeps : (t : ℕ → Bool) (g : ℕ) (f : Pairs) → t 0 ≡ false → IsUnordered f → KeepsOrder (raised_rule t g) f
-raised_keeps t g f zero un = written_keeps t (λ a b. two a b g 0) (λ _. Both) g f zero (λ x y. ap (λ (b : Bool). b && f g 0) (un.swaps x y)) un
+raised_keeps t g f zero un =
+    written_keeps t (λ a b. two a b g 0) (λ _. Both) g f zero (λ x y. ap (λ (b : Bool). b && f g 0) (un.swaps x y)) un
 
 twice : (b : Bool) → (b && b) ≡ (b && true)
 twice true = refl
@@ -98,13 +103,19 @@ test_keeps cmp.And p1 p2 g f un = one_keeps f un
 test_keeps cmp.OrAndcm p1 p2 g f un = written_keeps (is_target p1 p2) one (or_andcm_kept p1) g f refl un.swaps un
 
 -- A rule that is a choice between two that keep order.
-choice_keeps : (test : ℕ → ℕ → Bool) (r s : ℕ → ℕ → PairRule) (f : Pairs) → ((x y : ℕ) → test x y ≡ test y x) → ((x : ℕ) → test x x ≡ test x 0) → KeepsOrder r f → KeepsOrder s f → KeepsOrder (λ x y. cond (test x y) (r x y) (s x y)) f
+choice_keeps : (test : ℕ → ℕ → Bool) (r s : ℕ → ℕ → PairRule) (f : Pairs) → ((x y : ℕ) → test x y ≡ test y x)
+    → ((x : ℕ) → test x x ≡ test x 0) → KeepsOrder r f → KeepsOrder s f → KeepsOrder (λ x y. cond (test x y) (r x y) (s x y)) f
 choice_keeps test r s f order alone k m = record {
-  swaps = λ x y. ap (λ (b : Bool). is_met (cond b (r x y) (s x y)) f) (order x y) ∙ by_bool (test y x) (r x y) (r y x) (s x y) (s y x) (k.swaps x y) (m.swaps x y);
-  alone = λ x. ap (λ (b : Bool). is_met (cond b (r x x) (s x x)) f) (alone x) ∙ by_bool (test x 0) (r x x) (r x 0) (s x x) (s x 0) (k.alone x) (m.alone x);
+  swaps =
+      λ x y. ap (λ (b : Bool). is_met (cond b (r x y) (s x y)) f) (order x y)
+      ∙ by_bool (test y x) (r x y) (r y x) (s x y) (s y x) (k.swaps x y) (m.swaps x y);
+  alone =
+      λ x. ap (λ (b : Bool). is_met (cond b (r x x) (s x x)) f) (alone x)
+      ∙ by_bool (test x 0) (r x x) (r x 0) (s x x) (s x 0) (k.alone x) (m.alone x);
 }
   where
-    by_bool : (b : Bool) (r r' s s' : PairRule) → is_met r f ≡ is_met r' f → is_met s f ≡ is_met s' f → is_met (cond b r s) f ≡ is_met (cond b r' s') f
+    by_bool : (b : Bool) (r r' s s' : PairRule) → is_met r f ≡ is_met r' f → is_met s f ≡ is_met s' f
+        → is_met (cond b r s) f ≡ is_met (cond b r' s') f
     by_bool true r r' s s' h i = h
     by_bool false r r' s s' h i = i
 
@@ -126,7 +137,8 @@ or_swaps false false = refl
 
 falls_keeps : (g : ℕ) (f : Pairs) → IsUnordered f → KeepsOrder (falls_rule g) f
 falls_keeps g f un = choice_keeps (λ x y. eqb x g || eqb y g || (eqb x y && eqb g 0)) (λ _ _. always) one f
-    (λ x y. ap (λ (b : Bool). b || (eqb x y && eqb g 0)) (or_swaps (eqb x g) (eqb y g)) ∙ ap (λ (b : Bool). eqb y g || eqb x g || (b && eqb g 0)) (equal_swaps x y))
+    (λ x y. ap (λ (b : Bool). b || (eqb x y && eqb g 0)) (or_swaps (eqb x g) (eqb y g))
+    ∙ ap (λ (b : Bool). eqb y g || eqb x g || (b && eqb g 0)) (equal_swaps x y))
     (λ x. rw (eq-eqb x x refl, equal_swaps 0 g) (by_bools (eqb x g) (eqb g 0) (eqb x 0)))
     (same_keeps always f) (one_keeps f un)
   where
@@ -137,7 +149,9 @@ falls_keeps g f un = choice_keeps (λ x y. eqb x g || eqb y g || (eqb x y && eqb
     by_bools false false false = refl
 
 static_keeps : (f : Pairs) → IsUnordered f → KeepsOrder static_rule f
-static_keeps f un = choice_keeps (λ x y. nat_lt x 16 && nat_lt y 16) one (λ _ _. never) f (λ x y. and_comm (nat_lt x 16) (nat_lt y 16)) (λ x. twice (nat_lt x 16)) (one_keeps f un) (same_keeps never f)
+static_keeps f un =
+    choice_keeps (λ x y. nat_lt x 16 && nat_lt y 16) one (λ _ _. never) f (λ x y. and_comm (nat_lt x 16) (nat_lt y 16))
+    (λ x. twice (nat_lt x 16)) (one_keeps f un) (same_keeps never f)
 
 rotated_keeps : (first : PairRule) (f : Pairs) → IsUnordered f → KeepsOrder (rotated_rule first) f
 rotated_keeps first f un = choice_keeps (λ x y. eqb x 16 || eqb y 16) (λ _ _. first) (λ x y. one (name_before x) (name_before y)) f
@@ -176,8 +190,12 @@ action_keeps a edge g f un = one_keeps f un
 pub after_unordered : (f : Pairs) (i : Insn) (e : Edge) → IsUnordered f → IsUnordered (pairs_after f i e)
 unfolding pairs_after rule_of in_range
 after_unordered f i e un = let k = action_keeps (action_of i.op) e i.qp f un in record {
-  swaps = λ x y. ap (λ (b : Bool). b && is_met (rule_of i e x y) f) (and_comm (nat_lt x 64) (nat_lt y 64)) ∙ ap (λ (b : Bool). (nat_lt y 64 && nat_lt x 64) && b) (k.swaps x y);
-  alone = λ x. ap (λ (b : Bool). (nat_lt x 64 && nat_lt x 64) && b) (k.alone x) ∙ ap (λ (b : Bool). b && is_met (rule_of i e x 0) f) (twice (nat_lt x 64));
+  swaps =
+      λ x y. ap (λ (b : Bool). b && is_met (rule_of i e x y) f) (and_comm (nat_lt x 64) (nat_lt y 64))
+      ∙ ap (λ (b : Bool). (nat_lt y 64 && nat_lt x 64) && b) (k.swaps x y);
+  alone =
+      λ x. ap (λ (b : Bool). (nat_lt x 64 && nat_lt x 64) && b) (k.alone x)
+      ∙ ap (λ (b : Bool). b && is_met (rule_of i e x 0) f) (twice (nat_lt x 64));
 }
 
 -- The set without a pair, a meet, and a set with one pair more.
@@ -193,7 +211,9 @@ common_unordered f g u v = record {
 }
 
 same_pair_swaps : (a b x y : ℕ) → is_same_pair a b x y ≡ is_same_pair a b y x
-same_pair_swaps a b x y = or_swaps (eqb x a && eqb y b) (eqb x b && eqb y a) ∙ ap (λ (c : Bool). c || (eqb x a && eqb y b)) (and_comm (eqb x b) (eqb y a)) ∙ ap (λ (c : Bool). (eqb y a && eqb x b) || c) (and_comm (eqb x a) (eqb y b))
+same_pair_swaps a b x y =
+    or_swaps (eqb x a && eqb y b) (eqb x b && eqb y a) ∙ ap (λ (c : Bool). c || (eqb x a && eqb y b)) (and_comm (eqb x b) (eqb y a))
+    ∙ ap (λ (c : Bool). (eqb y a && eqb x b) || c) (and_comm (eqb x a) (eqb y b))
 
 other_apart : (x y : ℕ) → x ≢ y → other_of x y ≡ y
 other_apart x y ne = rw (ne_eqb x y ne) refl
@@ -208,12 +228,17 @@ other_same x = rw (eq-eqb x x refl) (by_bool (eqb x 0))
 pub plus_unordered : (f : Pairs) (a b : ℕ) → IsUnordered f → IsUnordered (with_pair f a b)
 unfolding with_pair
 plus_unordered f a b un = record {
-  swaps = λ x y. ap (λ (c : Bool). c || is_same_pair a (other_of a b) x (other_of x y)) (un.swaps x y) ∙ ap (λ (c : Bool). f y x || c) (pair_swaps x y);
-  alone = λ x. ap (λ (c : Bool). c || is_same_pair a (other_of a b) x (other_of x x)) (un.alone x) ∙ ap (λ (k : ℕ). f x 0 || is_same_pair a (other_of a b) x k) (other_same x);
+  swaps =
+      λ x y. ap (λ (c : Bool). c || is_same_pair a (other_of a b) x (other_of x y)) (un.swaps x y)
+      ∙ ap (λ (c : Bool). f y x || c) (pair_swaps x y);
+  alone =
+      λ x. ap (λ (c : Bool). c || is_same_pair a (other_of a b) x (other_of x x)) (un.alone x)
+      ∙ ap (λ (k : ℕ). f x 0 || is_same_pair a (other_of a b) x k) (other_same x);
 }
   where
     pair_swaps : (x y : ℕ) → is_same_pair a (other_of a b) x (other_of x y) ≡ is_same_pair a (other_of a b) y (other_of y x)
     pair_swaps x y = elim (cases_eq x y) [
-      | inl e ↦ ap (λ (k : ℕ). is_same_pair a (other_of a b) k (other_of k y)) e ∙ sym (ap (λ (k : ℕ). is_same_pair a (other_of a b) y (other_of y k)) e)
+      | inl e ↦ ap (λ (k : ℕ). is_same_pair a (other_of a b) k (other_of k y)) e
+          ∙ sym (ap (λ (k : ℕ). is_same_pair a (other_of a b) y (other_of y k)) e)
       | inr ne ↦ rw (other_apart x y ne, other_apart y x (λ e. ne (sym e))) (same_pair_swaps a (other_of a b) x y)
     ]

@@ -17,7 +17,8 @@ HasAllRows changed = (x : ℕ) → x < 64 → has_bit changed x ≡ true
 -- word, and some where that has one.
 pub record Narrows (rules : ℕ → ℕ → PairRule) (changed : ℕ) (before old new : Pairs) (rows : ℕ) : Type 0 where
   pub whole : HasAllRows changed → new ≡ common old (pairs_by before rules)
-  pub narrowed : (older : Pairs) → AgreeOutside changed older before → IsWithin old (pairs_by older rules) → new ≡ common old (pairs_by before rules)
+  pub narrowed : (older : Pairs) → AgreeOutside changed older before → IsWithin old (pairs_by older rules)
+      → new ≡ common old (pairs_by before rules)
   pub within : IsWithin new old
   pub keeps : IsWithin (common old (pairs_by before rules)) new
   pub lost : AgreeOutside rows old new

@@ -14,10 +14,58 @@ use Rattle.ia_insn.specs.Ranges.{IsHintOf}
 use Rattle.pseudo_laws.specs.Laws.{reads, unc_text, letter, HasLetter, RegisterCompares, NumberCompares, MovesToBranches, PseudoOperations}
 
 compares_of : (unc four_bytes : Bool) → RegisterCompares unc four_bytes
-compares_of true true = record { eq = λ p q a b. refl; lt = λ p q a b. refl; ltu = λ p q a b. refl; not_eq = λ p q a b. refl; ge = λ p q a b. refl; geu = λ p q a b. refl; greater = λ p q a b. refl; gtu = λ p q a b. refl; less = λ p q a b. refl; leu = λ p q a b. refl }
-compares_of true false = record { eq = λ p q a b. refl; lt = λ p q a b. refl; ltu = λ p q a b. refl; not_eq = λ p q a b. refl; ge = λ p q a b. refl; geu = λ p q a b. refl; greater = λ p q a b. refl; gtu = λ p q a b. refl; less = λ p q a b. refl; leu = λ p q a b. refl }
-compares_of false true = record { eq = λ p q a b. refl; lt = λ p q a b. refl; ltu = λ p q a b. refl; not_eq = λ p q a b. refl; ge = λ p q a b. refl; geu = λ p q a b. refl; greater = λ p q a b. refl; gtu = λ p q a b. refl; less = λ p q a b. refl; leu = λ p q a b. refl }
-compares_of false false = record { eq = λ p q a b. refl; lt = λ p q a b. refl; ltu = λ p q a b. refl; not_eq = λ p q a b. refl; ge = λ p q a b. refl; geu = λ p q a b. refl; greater = λ p q a b. refl; gtu = λ p q a b. refl; less = λ p q a b. refl; leu = λ p q a b. refl }
+compares_of true true =
+    record {
+      eq = λ p q a b. refl;
+      lt = λ p q a b. refl;
+      ltu = λ p q a b. refl;
+      not_eq = λ p q a b. refl;
+      ge = λ p q a b. refl;
+      geu = λ p q a b. refl;
+      greater = λ p q a b. refl;
+      gtu = λ p q a b. refl;
+      less = λ p q a b. refl;
+      leu = λ p q a b. refl;
+    }
+compares_of true false =
+    record {
+      eq = λ p q a b. refl;
+      lt = λ p q a b. refl;
+      ltu = λ p q a b. refl;
+      not_eq = λ p q a b. refl;
+      ge = λ p q a b. refl;
+      geu = λ p q a b. refl;
+      greater = λ p q a b. refl;
+      gtu = λ p q a b. refl;
+      less = λ p q a b. refl;
+      leu = λ p q a b. refl;
+    }
+compares_of false true =
+    record {
+      eq = λ p q a b. refl;
+      lt = λ p q a b. refl;
+      ltu = λ p q a b. refl;
+      not_eq = λ p q a b. refl;
+      ge = λ p q a b. refl;
+      geu = λ p q a b. refl;
+      greater = λ p q a b. refl;
+      gtu = λ p q a b. refl;
+      less = λ p q a b. refl;
+      leu = λ p q a b. refl;
+    }
+compares_of false false =
+    record {
+      eq = λ p q a b. refl;
+      lt = λ p q a b. refl;
+      ltu = λ p q a b. refl;
+      not_eq = λ p q a b. refl;
+      ge = λ p q a b. refl;
+      geu = λ p q a b. refl;
+      greater = λ p q a b. refl;
+      gtu = λ p q a b. refl;
+      less = λ p q a b. refl;
+      leu = λ p q a b. refl;
+    }
 
 number_compares_of : (unc four_bytes : Bool) → NumberCompares unc four_bytes
 number_compares_of true true = record {
@@ -68,11 +116,13 @@ moves_of false true = record { taken = λ b1 r2. refl; none = λ b1 r2. refl; dy
 moves_of false false = record { taken = λ b1 r2. refl; none = λ b1 r2. refl; dynamic = λ b1 r2. refl }
 
 tbit_of : (unc : Bool) (p q r3 n : ℕ) → has_room Position false n ≡ true
-    → reads (codes "tbit.nz" ++ unc_text unc) (t.Pr p ∷ t.Comma ∷ t.Pr q ∷ t.Equals ∷ t.Gr r3 ∷ t.Comma ∷ t.Number false n ∷ []) ≡ Some (op.Tbit unc q p r3 (small n))
+    → reads (codes "tbit.nz" ++ unc_text unc) (t.Pr p ∷ t.Comma ∷ t.Pr q ∷ t.Equals ∷ t.Gr r3 ∷ t.Comma ∷ t.Number false n ∷ [])
+    ≡ Some (op.Tbit unc q p r3 (small n))
 tbit_of true p q r3 n h = rw h (refl {a = Some (op.Tbit true q p r3 (small n))})
 tbit_of false p q r3 n h = rw h (refl {a = Some (op.Tbit false q p r3 (small n))})
 
-tnat_of : (unc : Bool) (p q r3 : ℕ) → reads (codes "tnat.nz" ++ unc_text unc) (t.Pr p ∷ t.Comma ∷ t.Pr q ∷ t.Equals ∷ t.Gr r3 ∷ []) ≡ Some (op.Tnat unc q p r3)
+tnat_of : (unc : Bool) (p q r3 : ℕ) → reads (codes "tnat.nz" ++ unc_text unc) (t.Pr p ∷ t.Comma ∷ t.Pr q ∷ t.Equals ∷ t.Gr r3 ∷ [])
+    ≡ Some (op.Tnat unc q p r3)
 tnat_of true p q r3 = refl
 tnat_of false p q r3 = refl
 
@@ -96,7 +146,9 @@ others = record {
   number_compares = number_compares_of;
   mov = λ r1 r3. refl;
   mov_number = λ r1 s n h. rw h (refl {a = Some (op.AddImm22 r1 (long s n) 0)});
-  add = λ r1 s n r3 h. rw h (refl {a = Some (if has_room Imm14 s n then op.AddImm14 false r1 (long s n) r3 else op.AddImm22 r1 (long s n) r3)});
+  add =
+      λ r1 s n r3 h. rw h (refl {a = Some (if has_room Imm14 s n then op.AddImm14 false r1 (long s n) r3 else op.AddImm22 r1 (long s n)
+      r3)});
   shl = λ r1 r2 n h. rw h (refl {a = Some (op.DepZ r1 r2 (small n) (64 - small n))});
   shr = λ r1 r3 n h. rw h (refl {a = Some (op.Extr true r1 r3 (small n) (64 - small n))});
   shr_u = λ r1 r3 n h. rw h (refl {a = Some (op.Extr false r1 r3 (small n) (64 - small n))});
@@ -117,5 +169,7 @@ others = record {
   bare_nop_number = λ n h. rw h (refl {a = Some (op.Nop unit.X n)});
   bare_hint_number = λ n h. rw h (refl {a = Some (op.Hint unit.I n)});
   bare_check = λ r2. refl;
-  alloc = λ r1 i l o r a b d e. rw (a, b, d, e) (refl {a = if nat_lt 96 (small i + small l + small o) then None else Some (op.Alloc r1 (small i + small l + small o) (small i + small l) (small r / 8))});
+  alloc =
+      λ r1 i l o r a b d e. rw (a, b, d, e) (refl {a = if nat_lt 96 (small i + small l + small o) then None else Some
+      (op.Alloc r1 (small i + small l + small o) (small i + small l) (small r / 8))});
 }

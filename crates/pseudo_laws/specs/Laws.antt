@@ -27,7 +27,9 @@ use Rattle.ia_insn.specs.Ranges.{IsHintOf}
 
 -- The instruction of a line: that of the first form which the name names and whose operands these are.
 abbrev pub reads : List ℕ → List Token → Option Op
-reads name xs = option_and_then (λ f. option_and_then (λ cs. op_of f cs (taken (row_of f).items xs)) (completers f name)) (find (is_spelled xs) (named_forms name))
+reads name xs =
+    option_and_then (λ f. option_and_then (λ cs. op_of f cs (taken (row_of f).items xs)) (completers f name))
+    (find (is_spelled xs) (named_forms name))
 
 -- `.unc` or nothing, and the type of a compare that has it
 abbrev pub unc_text : Bool → List ℕ
@@ -43,7 +45,8 @@ compare_text four_bytes = if four_bytes then codes "cmp4" else codes "cmp"
 -- registers.
 abbrev Compares : Bool → Bool → List ℕ → Rel → (ℕ → ℕ → ℕ) → (ℕ → ℕ → ℕ) → Type 0
 Compares unc four_bytes relation machine first second =
-    (p q a b : ℕ) → reads (compare_text four_bytes ++ relation ++ unc_text unc) (t.Pr p ∷ t.Comma ∷ t.Pr q ∷ t.Equals ∷ t.Gr a ∷ t.Comma ∷ t.Gr b ∷ [])
+    (p q a b : ℕ) → reads (compare_text four_bytes ++ relation ++ unc_text unc)
+    (t.Pr p ∷ t.Comma ∷ t.Pr q ∷ t.Equals ∷ t.Gr a ∷ t.Comma ∷ t.Gr b ∷ [])
     ≡ Some (op.Cmp four_bytes machine (unc_kind unc) (first p q) (first q p) (second a b) (second b a))
 
 -- The line `cmp.relation p,q=n,b`, or `cmp4`, of a number that has room in the field, is a compare of the machine with these
@@ -51,7 +54,8 @@ Compares unc four_bytes relation machine first second =
 abbrev ComparesNumber : Bool → Bool → List ℕ → NumberField → Rel → (ℕ → ℕ → ℕ) → (ℤ → ℤ) → Type 0
 ComparesNumber unc four_bytes relation field machine first lowered =
     (p q : ℕ) (negative : Bool) (n b : ℕ) → has_room field negative n ≡ true
-    → reads (compare_text four_bytes ++ relation ++ unc_text unc) (t.Pr p ∷ t.Comma ∷ t.Pr q ∷ t.Equals ∷ t.Number negative n ∷ t.Comma ∷ t.Gr b ∷ [])
+    → reads (compare_text four_bytes ++ relation ++ unc_text unc)
+    (t.Pr p ∷ t.Comma ∷ t.Pr q ∷ t.Equals ∷ t.Number negative n ∷ t.Comma ∷ t.Gr b ∷ [])
     ≡ Some (op.CmpImm four_bytes machine (unc_kind unc) (first p q) (first q p) (lowered (long negative n)) b)
 
 -- As they are written, and exchanged.
@@ -108,7 +112,8 @@ HasLetter u = Unit {0}
 -- mov b1=r2 without a tag, with `.ret` and `.imp` or without, and this whether hint
 abbrev pub MovesToBranch : Bool → Bool → List ℕ → ℕ → Type 0
 MovesToBranch ret imp whether wh =
-    (b1 r2 : ℕ) → reads (codes "mov" ++ (if ret then codes ".ret" else []) ++ whether ++ (if imp then codes ".imp" else [])) (t.Br b1 ∷ t.Equals ∷ t.Gr r2 ∷ [])
+    (b1 r2 : ℕ) → reads (codes "mov" ++ (if ret then codes ".ret" else []) ++ whether ++ (if imp then codes ".imp" else []))
+    (t.Br b1 ∷ t.Equals ∷ t.Gr r2 ∷ [])
     ≡ Some (op.MovToBr b1 r2 ret imp wh (pos 0))
 
 pub record MovesToBranches (ret imp : Bool) : Type 0 where
@@ -134,13 +139,17 @@ pub record PseudoOperations : Type 0 where
       → reads (codes "shl") (t.Gr r1 ∷ t.Equals ∷ t.Gr r2 ∷ t.Comma ∷ t.Number false n ∷ []) ≡ Some (op.DepZ r1 r2 (small n) (64 - small n))
   -- shr r1=r3,n and shr.u r1=r3,n
   pub shr : (r1 r3 n : ℕ) → has_room Position false n ≡ true
-      → reads (codes "shr") (t.Gr r1 ∷ t.Equals ∷ t.Gr r3 ∷ t.Comma ∷ t.Number false n ∷ []) ≡ Some (op.Extr true r1 r3 (small n) (64 - small n))
+      → reads (codes "shr") (t.Gr r1 ∷ t.Equals ∷ t.Gr r3 ∷ t.Comma ∷ t.Number false n ∷ [])
+      ≡ Some (op.Extr true r1 r3 (small n) (64 - small n))
   pub shr_u : (r1 r3 n : ℕ) → has_room Position false n ≡ true
-      → reads (codes "shr.u") (t.Gr r1 ∷ t.Equals ∷ t.Gr r3 ∷ t.Comma ∷ t.Number false n ∷ []) ≡ Some (op.Extr false r1 r3 (small n) (64 - small n))
+      → reads (codes "shr.u") (t.Gr r1 ∷ t.Equals ∷ t.Gr r3 ∷ t.Comma ∷ t.Number false n ∷ [])
+      ≡ Some (op.Extr false r1 r3 (small n) (64 - small n))
   -- tbit.nz p,q=r3,n and tnat.nz p,q=r3
   pub tbit_nz : (unc : Bool) (p q r3 n : ℕ) → has_room Position false n ≡ true
-      → reads (codes "tbit.nz" ++ unc_text unc) (t.Pr p ∷ t.Comma ∷ t.Pr q ∷ t.Equals ∷ t.Gr r3 ∷ t.Comma ∷ t.Number false n ∷ []) ≡ Some (op.Tbit unc q p r3 (small n))
-  pub tnat_nz : (unc : Bool) (p q r3 : ℕ) → reads (codes "tnat.nz" ++ unc_text unc) (t.Pr p ∷ t.Comma ∷ t.Pr q ∷ t.Equals ∷ t.Gr r3 ∷ []) ≡ Some (op.Tnat unc q p r3)
+      → reads (codes "tbit.nz" ++ unc_text unc) (t.Pr p ∷ t.Comma ∷ t.Pr q ∷ t.Equals ∷ t.Gr r3 ∷ t.Comma ∷ t.Number false n ∷ [])
+      ≡ Some (op.Tbit unc q p r3 (small n))
+  pub tnat_nz : (unc : Bool) (p q r3 : ℕ) → reads (codes "tnat.nz" ++ unc_text unc) (t.Pr p ∷ t.Comma ∷ t.Pr q ∷ t.Equals ∷ t.Gr r3 ∷ [])
+      ≡ Some (op.Tnat unc q p r3)
   -- mov b1=r2, without a tag
   pub mov_to_br : (ret imp : Bool) → MovesToBranches ret imp
   -- mov pr=r2, to all but p0
@@ -163,6 +172,9 @@ pub record PseudoOperations : Type 0 where
   pub bare_hint_number : (n : ℕ) → has_room Imm21 false n ≡ true → reads (codes "hint") (t.Number false n ∷ []) ≡ Some (op.Hint unit.I n)
   pub bare_check : (r2 : ℕ) → reads (codes "chk.s") (t.Gr r2 ∷ t.Comma ∷ t.Name ∷ []) ≡ Some (op.ChkS unit.I r2 (pos 0))
   -- alloc r1=ar.pfs,i,l,o,r
-  pub alloc : (r1 i l o r : ℕ) → has_room Frame false i ≡ true → has_room Frame false l ≡ true → has_room Frame false o ≡ true → has_room Rotating false r ≡ true
-      → reads (codes "alloc") (t.Gr r1 ∷ t.Equals ∷ t.Ar Pfs ∷ t.Comma ∷ t.Number false i ∷ t.Comma ∷ t.Number false l ∷ t.Comma ∷ t.Number false o ∷ t.Comma ∷ t.Number false r ∷ [])
-      ≡ (if nat_lt 96 (small i + small l + small o) then None else Some (op.Alloc r1 (small i + small l + small o) (small i + small l) (small r / 8)))
+  pub alloc : (r1 i l o r : ℕ) → has_room Frame false i ≡ true → has_room Frame false l ≡ true → has_room Frame false o ≡ true
+      → has_room Rotating false r ≡ true
+      → reads (codes "alloc") (t.Gr r1 ∷ t.Equals ∷ t.Ar Pfs ∷ t.Comma ∷ t.Number false i ∷ t.Comma ∷ t.Number false l ∷ t.Comma ∷ t.Number
+      false o ∷ t.Comma ∷ t.Number false r ∷ [])
+      ≡ (if nat_lt 96 (small i + small l + small o) then None else Some
+      (op.Alloc r1 (small i + small l + small o) (small i + small l) (small r / 8)))

@@ -19,19 +19,23 @@ pub length_held : (ring : List Cell) (region : List ℕ) (low high : ℕ) → le
 unfolding cells_of
 length_held ring region low high = length-map-range_with_len (held_cell ring region low) 0 high
 
-pub held_at : (ring : List Cell) (region : List ℕ) (low high c : ℕ) → c < high → get_or (cells_of ring region low high) c zero_cell ≡ held_cell ring region low c
+pub held_at : (ring : List Cell) (region : List ℕ) (low high c : ℕ) → c < high
+    → get_or (cells_of ring region low high) c zero_cell ≡ held_cell ring region low c
 unfolding cells_of
 held_at ring region low high c h = get_or-map-range_with_len (held_cell ring region low) 0 high c c zero_cell h (omega arith)
 
-pub held_past : (ring : List Cell) (region : List ℕ) (low high c : ℕ) → high ≤ c → get_or (cells_of ring region low high) c zero_cell ≡ zero_cell
+pub held_past : (ring : List Cell) (region : List ℕ) (low high c : ℕ) → high ≤ c
+    → get_or (cells_of ring region low high) c zero_cell ≡ zero_cell
 held_past ring region low high c h = get_or_past (cells_of ring region low high) c zero_cell (rw length_held h)
 
 -- ---- a read and a write of a resident cell
 
-pub resident_at : (ring : List Cell) (region : List ℕ) (low high c : ℕ) → low ≤ c → c < high → get_or (cells_of ring region low high) c zero_cell ≡ resident_cell ring c
+pub resident_at : (ring : List Cell) (region : List ℕ) (low high c : ℕ) → low ≤ c → c < high
+    → get_or (cells_of ring region low high) c zero_cell ≡ resident_cell ring c
 resident_at ring region low high c h k = held_at ring region low high c k ∙ held_above ring region low c h
 
-pub resident_set : (ring : List Cell) (region : List ℕ) (low high c : ℕ) (cell : Cell) → length ring ≡ 96 → low ≤ c → c < high → high ≤ low + 96 → cells_of (set ring (c % 96) cell) region low high ≡ set (cells_of ring region low high) c cell
+pub resident_set : (ring : List Cell) (region : List ℕ) (low high c : ℕ) (cell : Cell) → length ring ≡ 96 → low ≤ c → c < high
+    → high ≤ low + 96 → cells_of (set ring (c % 96) cell) region low high ≡ set (cells_of ring region low high) c cell
 resident_set ring region low high c cell len above below near =
     let after = set ring (c % 96) cell in
     let cells = cells_of ring region low high in
@@ -40,7 +44,8 @@ resident_set ring region low high c cell len above below near =
     ext_get_or zero_cell (cells_of after region low high) (set cells c cell) same (λ d h.
     let within : d < high = rw (length_held after region low high) at h in
     held_at after region low high d within ∙ ⊎_elim
-    (λ (e : d ≡ c). rw e (held_above after region low c above ∙ ring_same ring c cell len ∙ sym (get_or-set_same cells c cell zero_cell (rw length_held below))))
+    (λ (e : d ≡ c). rw e (held_above after region low c above ∙ ring_same ring c cell len
+    ∙ sym (get_or-set_same cells c cell zero_cell (rw length_held below))))
     (λ (e : (d < c) ⊎ (c < d)).
     let ne : d ≢ c = ⊎_elim (λ (j : d < c). λ (k : d ≡ c). absurd (omega arith)) (λ (j : c < d). λ (k : d ≡ c). absurd (omega arith)) e in
     ⊎_elim
@@ -65,7 +70,9 @@ pub record HasMoved (ring0 ring1 ring2 : List Cell) (region0 region1 region2 : L
   pub reach : to ≤ high
   pub near : end ≤ to + 96
 
-pub moved_cells : {ring0 ring1 ring2 : List Cell} {region0 region1 region2 : List ℕ} {low top to high end : ℕ} → HasMoved ring0 ring1 ring2 region0 region1 region2 low top to high end → cells_of ring2 region2 to end ≡ resized end (cells_of ring0 region0 low high)
+pub moved_cells : {ring0 ring1 ring2 : List Cell} {region0 region1 region2 : List ℕ} {low top to high end : ℕ}
+    → HasMoved ring0 ring1 ring2 region0 region1 region2 low top to high end
+    → cells_of ring2 region2 to end ≡ resized end (cells_of ring0 region0 low high)
 moved_cells {ring0} {ring1} {ring2} {region0} {region1} {region2} {low} {top} {to} {high} {end} m =
     let reach = m.reach in
     let near = m.near in
@@ -100,6 +107,8 @@ zeros_at n c = ⊎_elim
 pub zeros_free : (n : ℕ) → IsFreeFrom (zeros n) 0
 unfolding spilled_cell spare_bit
 zeros_free n = record {
-  rest = λ c h. cell_is _ _ (zeros_at n (value_word c)) (ap (λ x. bit_at x (c % 63) == 1) (zeros_at n (nat_word c)) ∙ ap (λ x. x == 1) (bit_at-zero (c % 63)));
+  rest =
+      λ c h. cell_is _ _ (zeros_at n (value_word c)) (ap (λ x. bit_at x (c % 63) == 1) (zeros_at n (nat_word c))
+      ∙ ap (λ x. x == 1) (bit_at-zero (c % 63)));
   spare = λ k. ap (λ x. bit_at x 63) (zeros_at n (64 * k + 63)) ∙ bit_at-zero 63;
 }

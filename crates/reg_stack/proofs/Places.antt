@@ -61,11 +61,15 @@ at_nat region c value nats h = get_or-set_same (set region (value_word c) value)
 
 at_value : (region : List ℕ) (c value nats : ℕ) → nat_word c < length region → get_or (written region c value nats) (value_word c) 0 ≡ value
 unfolding written
-at_value region c value nats h = get_or-set_other (set region (value_word c) value) (nat_word c) (value_word c) nats 0 (value_ne_nat c c) ∙ get_or-set_same region (value_word c) value 0 (omega (arith, value_below_nat c))
+at_value region c value nats h =
+    get_or-set_other (set region (value_word c) value) (nat_word c) (value_word c) nats 0 (value_ne_nat c c)
+    ∙ get_or-set_same region (value_word c) value 0 (omega (arith, value_below_nat c))
 
-at_other : (region : List ℕ) (c value nats k : ℕ) → k ≢ value_word c → k ≢ nat_word c → get_or (written region c value nats) k 0 ≡ get_or region k 0
+at_other : (region : List ℕ) (c value nats k : ℕ) → k ≢ value_word c → k ≢ nat_word c
+    → get_or (written region c value nats) k 0 ≡ get_or region k 0
 unfolding written
-at_other region c value nats k h j = get_or-set_other (set region (value_word c) value) (nat_word c) k nats 0 j ∙ get_or-set_other region (value_word c) k value 0 h
+at_other region c value nats k h j =
+    get_or-set_other (set region (value_word c) value) (nat_word c) k nats 0 j ∙ get_or-set_other region (value_word c) k value 0 h
 
 -- What a write of a bit does to a word.
 pub record IsBitPut (old new b : ℕ) (bit : Bool) : Type 0 where
@@ -73,12 +77,19 @@ pub record IsBitPut (old new b : ℕ) (bit : Bool) : Type 0 where
   pub others : (i : ℕ) → i < 64 → i ≢ b → bit_at new i ≡ bit_at old i
 
 pub bit_set : (n b : ℕ) → b < 63 → IsBitPut n (bit_or n (1 * 2 ^ b % 2 ^ 64)) b true
-bit_set n b h = record { this = ap (λ x. x == 1) (bit_at_set_same w64 n b (omega arith)); others = λ i j k. bit_at_set_other w64 n b (omega arith) i k }
+bit_set n b h =
+    record { this = ap (λ x. x == 1) (bit_at_set_same w64 n b (omega arith)); others = λ i j k. bit_at_set_other w64 n b (omega arith) i k }
 
 pub bit_clear : (n b : ℕ) → b < 63 → IsBitPut n (bit_and n (bit_not w64 (1 * 2 ^ b % 2 ^ 64))) b false
-bit_clear n b h = record { this = ap (λ x. x == 1) (bit_at_clear_same w64 n b (omega arith)); others = λ i j k. bit_at_clear_other w64 n b (omega arith) i j k }
+bit_clear n b h =
+    record {
+      this = ap (λ x. x == 1) (bit_at_clear_same w64 n b (omega arith));
+      others = λ i j k. bit_at_clear_other w64 n b (omega arith) i j k;
+    }
 
-pub put_is : (region : List ℕ) (c : ℕ) (cell : Cell) (nats : ℕ) → nat_word c < length region → IsBitPut (get_or region (nat_word c) 0) nats (c % 63) cell.nat → IsPut region (set (set region (value_word c) cell.value) (nat_word c) nats) c cell
+pub put_is : (region : List ℕ) (c : ℕ) (cell : Cell) (nats : ℕ) → nat_word c < length region
+    → IsBitPut (get_or region (nat_word c) 0) nats (c % 63) cell.nat
+    → IsPut region (set (set region (value_word c) cell.value) (nat_word c) nats) c cell
 unfolding written spilled_cell spare_bit
 put_is region c cell nats h put =
     let same = at_nat region c cell.value nats h in
@@ -92,7 +103,8 @@ put_is region c cell nats h put =
           (λ (e : d / 63 ≡ c / 63).
           let at : nat_word d ≡ nat_word c = omega arith in
           rw at (rw same (ap (λ x. x == 1) (put.others (d % 63) (omega arith) (bit_ne_bit c d k e)))))
-          (λ (e : d / 63 ≡ c / 63 → ⊥). ap (λ x. bit_at x (d % 63) == 1) (other (nat_word d) (λ j. value_ne_nat c d (sym j)) (λ j. e (omega arith))))
+          (λ (e : d / 63 ≡ c / 63 → ⊥). ap (λ x. bit_at x (d % 63) == 1)
+          (other (nat_word d) (λ j. value_ne_nat c d (sym j)) (λ j. e (omega arith))))
           (cases_eq (d / 63) (c / 63)));
       spare = λ n. ⊎_elim
           (λ (e : n ≡ c / 63).
@@ -112,11 +124,15 @@ pub same_nats : (region : List ℕ) (c d nats : ℕ) → d / 63 ≡ c / 63 → w
 same_nats region c d nats e = ap (λ n. set region (64 * n + 63) nats) e
 
 -- The value of a cell there, and its NaT bit in the collection that is to be written.
-pub spilled_in_run : (region : List ℕ) (c nats : ℕ) → nat_word c < length region → spilled_cell (with_nats region c nats) c ≡ record { value = get_or region (value_word c) 0; nat = bit_at nats (c % 63) == 1 }
+pub spilled_in_run : (region : List ℕ) (c nats : ℕ) → nat_word c < length region
+    → spilled_cell (with_nats region c nats) c ≡ record { value = get_or region (value_word c) 0; nat = bit_at nats (c % 63) == 1 }
 unfolding spilled_cell
-spilled_in_run region c nats h = cell_is _ _ (get_or-set_other region (nat_word c) (value_word c) nats 0 (value_ne_nat c c)) (ap (λ x. bit_at x (c % 63) == 1) (get_or-set_same region (nat_word c) nats 0 h))
+spilled_in_run region c nats h =
+    cell_is _ _ (get_or-set_other region (nat_word c) (value_word c) nats 0 (value_ne_nat c c))
+    (ap (λ x. bit_at x (c % 63) == 1) (get_or-set_same region (nat_word c) nats 0 h))
 
-pub put_in_run : (region : List ℕ) (c : ℕ) (cell : Cell) (old new : ℕ) → nat_word c < length region → IsBitPut old new (c % 63) cell.nat → IsPut (with_nats region c old) (with_nats (set region (value_word c) cell.value) c new) c cell
+pub put_in_run : (region : List ℕ) (c : ℕ) (cell : Cell) (old new : ℕ) → nat_word c < length region → IsBitPut old new (c % 63) cell.nat
+    → IsPut (with_nats region c old) (with_nats (set region (value_word c) cell.value) c new) c cell
 put_in_run region c cell old new h put =
     let seen = with_nats region c old in
     let values = set region (value_word c) cell.value in
@@ -134,18 +150,25 @@ pub record IsInRun (first c word bit : ℕ) : Type 0 where
 pub in_run : (first c : ℕ) → c / 63 ≡ first / 63 → IsInRun first c (c + first / 63) (c - 63 * (first / 63))
 in_run first c row = record { row = row; word_is = omega arith; bit_is = omega arith }
 
-pub spilled_there : {first c word bit : ℕ} (region : List ℕ) (nats : ℕ) → IsInRun first c word bit → nat_word first < length region → record { value = get_or region word 0; nat = bit_at nats bit == 1 } ≡ spilled_cell (with_nats region first nats) c
+pub spilled_there : {first c word bit : ℕ} (region : List ℕ) (nats : ℕ) → IsInRun first c word bit → nat_word first < length region
+    → record { value = get_or region word 0; nat = bit_at nats bit == 1 } ≡ spilled_cell (with_nats region first nats) c
 spilled_there {first} {c} {word} {bit} region nats at h =
     let cell : ℕ → ℕ → Cell = λ w b. record { value = get_or region w 0; nat = bit_at nats b == 1 } in
     let row = at.row in
     let within : nat_word c < length region = omega arith in
-    sym (ap (λ x. spilled_cell x c) (sym (same_nats region first c nats at.row)) ∙ spilled_in_run region c nats within ∙ ap (λ w. cell w (c % 63)) at.word_is ∙ ap (λ b. cell word b) at.bit_is)
+    sym (ap (λ x. spilled_cell x c) (sym (same_nats region first c nats at.row)) ∙ spilled_in_run region c nats within
+    ∙ ap (λ w. cell w (c % 63)) at.word_is ∙ ap (λ b. cell word b) at.bit_is)
 
-pub put_there : {first c word bit : ℕ} (region : List ℕ) (cell : Cell) (old new : ℕ) → IsInRun first c word bit → nat_word first < length region → IsBitPut old new bit cell.nat → IsPut (with_nats region first old) (with_nats (set region word cell.value) first new) c cell
+pub put_there : {first c word bit : ℕ} (region : List ℕ) (cell : Cell) (old new : ℕ) → IsInRun first c word bit
+    → nat_word first < length region → IsBitPut old new bit cell.nat
+    → IsPut (with_nats region first old) (with_nats (set region word cell.value) first new) c cell
 put_there {first} {c} {word} {bit} region cell old new at h put =
     let row = at.row in
     let within : nat_word c < length region = omega arith in
     let bits : IsBitPut old new (c % 63) cell.nat = subst (λ b. IsBitPut old new b cell.nat) (sym at.bit_is) put in
     let before = same_nats region first c old at.row in
-    let after = same_nats (set region (value_word c) cell.value) first c new at.row ∙ ap (λ w. with_nats (set region w cell.value) first new) at.word_is in
-    subst (λ x. IsPut x (with_nats (set region word cell.value) first new) c cell) before (subst (λ x. IsPut (with_nats region c old) x c cell) after (put_in_run region c cell old new within bits))
+    let after =
+    same_nats (set region (value_word c) cell.value) first c new at.row
+    ∙ ap (λ w. with_nats (set region w cell.value) first new) at.word_is in
+    subst (λ x. IsPut x (with_nats (set region word cell.value) first new) c cell) before
+    (subst (λ x. IsPut (with_nats region c old) x c cell) after (put_in_run region c cell old new within bits))

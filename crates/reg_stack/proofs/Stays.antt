@@ -16,13 +16,17 @@ use Rattle.reg_stack.specs.Stacks.{IsHeld}
 use Rattle.reg_stack.proofs.Held.{resident_set, zeros, zeros_free}
 
 -- After a write of a register in the frame.
-pub cells_set : {ring : List Cell} {region : List ℕ} {shape : FrameShape} {rse : Rse} {limit : ℕ} (n : ℕ) (cell : Cell) → IsHeld ring region shape rse limit → length ring ≡ 96 → shape.base ≤ n → n < shape.base + shape.sof → cells_of (set ring (n % 96) cell) region rse.low rse.high ≡ set (cells_of ring region rse.low rse.high) n cell
+pub cells_set : {ring : List Cell} {region : List ℕ} {shape : FrameShape} {rse : Rse} {limit : ℕ} (n : ℕ) (cell : Cell)
+    → IsHeld ring region shape rse limit → length ring ≡ 96 → shape.base ≤ n → n < shape.base + shape.sof
+    → cells_of (set ring (n % 96) cell) region rse.low rse.high ≡ set (cells_of ring region rse.low rse.high) n cell
 cells_set {ring} {region} {shape} {rse} {limit} n cell held len above below =
     let high = held.high in
     let low = held.low in
     resident_set ring region rse.low rse.high n cell len (omega arith) (omega arith) held.resident
 
-pub held_set : {ring : List Cell} {region : List ℕ} {shape : FrameShape} {rse : Rse} {limit : ℕ} (n : ℕ) (cell : Cell) → IsHeld ring region shape rse limit → length ring ≡ 96 → shape.base ≤ n → n < shape.base + shape.sof → IsWord cell.value → IsHeld (set ring (n % 96) cell) region shape rse limit
+pub held_set : {ring : List Cell} {region : List ℕ} {shape : FrameShape} {rse : Rse} {limit : ℕ} (n : ℕ) (cell : Cell)
+    → IsHeld ring region shape rse limit → length ring ≡ 96 → shape.base ≤ n → n < shape.base + shape.sof → IsWord cell.value
+    → IsHeld (set ring (n % 96) cell) region shape rse limit
 held_set {ring} {region} {shape} {rse} {limit} n cell held len above below word =
     let cells = cells_of ring region rse.low rse.high in
     let same = cells_set n cell held len above below in
@@ -44,8 +48,13 @@ held_set {ring} {region} {shape} {rse} {limit} n cell held len above below word 
     }
 
 -- With another frame.
-pub held_entered : {ring new_ring : List Cell} {region seen new_region : List ℕ} {shape new : FrameShape} {rse new_rse : Rse} {limit end : ℕ} → IsHeld ring region shape rse limit → IsFrame new → end ≤ limit → new.base + new.sof ≡ end → new_rse ≡ range_after rse (new.base, end) → seen ≡ region → length new_region ≡ length seen → IsFreeFrom new_region new_rse.low → cells_of new_ring new_region new_rse.low new_rse.high ≡ resized new_rse.high (cells_of ring seen rse.low rse.high) → IsHeld new_ring new_region new new_rse limit
-held_entered {ring} {new_ring} {region} {seen} {new_region} {shape} {new} {rse} {new_rse} {limit} {end} held frame within sum range is count free same =
+pub held_entered : {ring new_ring : List Cell} {region seen new_region : List ℕ} {shape new : FrameShape} {rse new_rse : Rse}
+    {limit end : ℕ} → IsHeld ring region shape rse limit → IsFrame new → end ≤ limit → new.base + new.sof ≡ end
+    → new_rse ≡ range_after rse (new.base, end) → seen ≡ region → length new_region ≡ length seen → IsFreeFrom new_region new_rse.low
+    → cells_of new_ring new_region new_rse.low new_rse.high ≡ resized new_rse.high (cells_of ring seen rse.low rse.high)
+    → IsHeld new_ring new_region new new_rse limit
+held_entered {ring} {new_ring} {region} {seen} {new_region} {shape} {new} {rse} {new_rse} {limit}
+    {end} held frame within sum range is count free same =
     let old = held.stack in
     let size = frame.size in
     let low = ap (λ (r : Rse). r.low) range in
@@ -72,7 +81,8 @@ pub no_cells : (ring : List Cell) (region : List ℕ) → cells_of ring region 0
 unfolding cells_of
 no_cells ring region = refl
 
-pub held_zeros : (ring : List Cell) (region : List ℕ) (limit : ℕ) → region ≡ zeros (region_words limit) → 96 ≤ limit → limit ≤ STACK_LIMIT → IsHeld ring region zero_frame zero_range limit
+pub held_zeros : (ring : List Cell) (region : List ℕ) (limit : ℕ) → region ≡ zeros (region_words limit) → 96 ≤ limit → limit ≤ STACK_LIMIT
+    → IsHeld ring region zero_frame zero_range limit
 held_zeros ring region limit is least most =
     let none = no_cells ring region in
     record {

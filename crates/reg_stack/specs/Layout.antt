@@ -50,4 +50,6 @@ pub record IsFreeFrom (region : List ℕ) (low : ℕ) : Type 0 where
 -- Two regions of words that are as long, free from one cell on, and have the same cells below it are the same: a
 -- region holds its cells and nothing else.
 abbrev pub RegionIsItsCells : Type 0
-RegionIsItsCells = (a b : List ℕ) (low : ℕ) → length a ≡ length b → IsFreeFrom a low → IsFreeFrom b low → ((i : ℕ) → IsWord (get_or a i 0)) → ((i : ℕ) → IsWord (get_or b i 0)) → ((c : ℕ) → c < low → spilled_cell a c ≡ spilled_cell b c) → a ≡ b
+RegionIsItsCells =
+    (a b : List ℕ) (low : ℕ) → length a ≡ length b → IsFreeFrom a low → IsFreeFrom b low → ((i : ℕ) → IsWord (get_or a i 0))
+    → ((i : ℕ) → IsWord (get_or b i 0)) → ((c : ℕ) → c < low → spilled_cell a c ≡ spilled_cell b c) → a ≡ b

@@ -53,9 +53,12 @@ pub record ReturnsTo (s t : StackState) : Type 0 where
   pub unrefused : return_fault_within t.limit t.frame.base (marked_frame t.frame.base (frame_marker s.frame)) ≡ None
   pub frame : (after_call t (Return (frame_marker s.frame))).frame ≡ s.frame
   pub resident : (after_call t (Return (frame_marker s.frame))).range.low ≤ s.frame.base
-  pub cells : (c : ℕ) → c < s.frame.base + s.frame.sol → get_or (after_call t (Return (frame_marker s.frame))).cells c zero_cell ≡ get_or s.cells c zero_cell
+  pub cells : (c : ℕ) → c < s.frame.base + s.frame.sol → get_or (after_call t (Return (frame_marker s.frame))).cells c zero_cell
+      ≡ get_or s.cells c zero_cell
 
 -- A caller finds its registers again: whatever its callee calls, however often cells are spilled and filled, as long
 -- as no frame begins below the callee's, a return from a frame that begins where the callee's does goes back to it.
 abbrev pub CallerFindsItsRegisters : Type 0
-CallerFindsItsRegisters = (s : StackState) (calls : List StackCall) → IsStack s → StaysFrom (s.frame.base + s.frame.sol) (after_call s Call) calls → (after_calls (after_call s Call) calls).frame.base ≡ s.frame.base + s.frame.sol → ReturnsTo s (after_calls (after_call s Call) calls)
+CallerFindsItsRegisters =
+    (s : StackState) (calls : List StackCall) → IsStack s → StaysFrom (s.frame.base + s.frame.sol) (after_call s Call) calls
+    → (after_calls (after_call s Call) calls).frame.base ≡ s.frame.base + s.frame.sol → ReturnsTo s (after_calls (after_call s Call) calls)

@@ -67,13 +67,19 @@ AreAlike kind [] = Unit {0}
 AreAlike kind (row ∷ rows) = (row.kind ≡ kind) × (row.guarded ≡ true) × AreAlike kind rows
 
 -- Their accesses differ by their resources.
-pub in_alike : (qp : ℕ) (kind : Kind) (rows : List AccessRow) → AreAlike kind rows → (a : Access) → Contains (listed qp rows) a → (kind ≡ a.kind) × (qp ≡ a.guard)
+pub in_alike : (qp : ℕ) (kind : Kind) (rows : List AccessRow) → AreAlike kind rows → (a : Access) → Contains (listed qp rows) a
+    → (kind ≡ a.kind) × (qp ≡ a.guard)
 in_alike qp kind [] alike a c = absurd (not_in_none a c)
 in_alike qp kind (row ∷ rows) alike a c = of row.there c (in_alike qp kind rows alike.2 a)
   where
-    of : (b : Bool) → Contains (if b then access qp row ∷ listed qp rows else listed qp rows) a → (Contains (listed qp rows) a → (kind ≡ a.kind) × (qp ≡ a.guard)) → (kind ≡ a.kind) × (qp ≡ a.guard)
+    of : (b : Bool) → Contains (if b then access qp row ∷ listed qp rows else listed qp rows) a
+        → (Contains (listed qp rows) a → (kind ≡ a.kind) × (qp ≡ a.guard)) → (kind ≡ a.kind) × (qp ≡ a.guard)
     of true d rest = elim (cases_in (access qp row) a (listed qp rows) d) [
-      | inl e ↦ (sym alike.0 ∙ ap (λ (x : Access). x.kind) e, sym (ap (λ (b : Bool). if b then qp else 0) alike.1) ∙ ap (λ (x : Access). x.guard) e)
+      | inl e ↦ (
+        sym alike.0 ∙ ap (λ (x : Access). x.kind) e,
+        sym (ap (λ (b : Bool). if b then qp else 0) alike.1)
+            ∙ ap (λ (x : Access). x.guard) e,
+      )
       | inr k ↦ rest k
     ]
     of false d rest = rest d

@@ -189,4 +189,5 @@ apart s insn v m x listed frame =
     let action : Action = action_of insn.op in
     let l : HasNames insn.qp action = has_names insn.qp insn.op listed in
     apart_pairs _
-    (guarded_cases WritesApart s insn.qp action v m x (λ _. act_apart s insn.qp action v m x frame l) (λ _. skip_apart s insn.qp action v m frame l))
+    (guarded_cases WritesApart s insn.qp action v m x (λ _. act_apart s insn.qp action v m x frame l)
+    (λ _. skip_apart s insn.qp action v m frame l))

@@ -41,12 +41,15 @@ pub listed_append : (qp : ℕ) (xs ys : List AccessRow) → listed qp (xs ++ ys)
 listed_append qp [] ys = refl
 listed_append qp (x ∷ xs) ys = by_row x.there (listed_append qp xs ys)
   where
-    by_row : (b : Bool) → listed qp (xs ++ ys) ≡ listed qp xs ++ listed qp ys → (if b then access qp x ∷ listed qp (xs ++ ys) else listed qp (xs ++ ys)) ≡ (if b then access qp x ∷ listed qp xs else listed qp xs) ++ listed qp ys
+    by_row : (b : Bool) → listed qp (xs ++ ys) ≡ listed qp xs ++ listed qp ys
+        → (if b then access qp x ∷ listed qp (xs ++ ys) else listed qp (xs ++ ys))
+        ≡ (if b then access qp x ∷ listed qp xs else listed qp xs) ++ listed qp ys
     by_row true e = ap (λ rest. access qp x ∷ rest) e
     by_row false e = e
 
 -- The accesses by name, part by part.
-pub by_name : (qp : ℕ) (f : Action) → listed qp (rows_by_name qp f) ≡ (listed qp (frame_row qp f ∷ []) ++ listed qp (qp_rows qp f)) ++ listed qp (own_rows f)
+pub by_name : (qp : ℕ) (f : Action) → listed qp (rows_by_name qp f)
+    ≡ (listed qp (frame_row qp f ∷ []) ++ listed qp (qp_rows qp f)) ++ listed qp (own_rows f)
 by_name qp f =
     listed_append qp (frame_row qp f ∷ []) (qp_rows qp f ++ own_rows f)
     ∙ ap (λ x. listed qp (frame_row qp f ∷ []) ++ x) (listed_append qp (qp_rows qp f) (own_rows f))
@@ -59,7 +62,8 @@ in_two qp f = listed_append qp (rows_by_name qp f) (placed_rows f)
 
 -- All, part by part.
 pub in_parts : (qp : ℕ) (f : Action)
-    → accesses_of qp f ≡ ((listed qp (frame_row qp f ∷ []) ++ listed qp (qp_rows qp f)) ++ listed qp (own_rows f)) ++ listed qp (placed_rows f)
+    → accesses_of qp f ≡ ((listed qp (frame_row qp f ∷ []) ++ listed qp (qp_rows qp f)) ++ listed qp (own_rows f)) ++ listed qp
+    (placed_rows f)
 in_parts qp f = in_two qp f ∙ ap (λ x. x ++ listed qp (placed_rows f)) (by_name qp f)
 
 -- The row of the n-th predicate, and those of the later ones.
@@ -68,7 +72,12 @@ pub place_step : (old : List AccessRow) (n mask : ℕ) (kind : Kind) (row : Acce
     → old ++ place_rows (64 - n) n mask kind ≡ (old ++ row ∷ []) ++ place_rows (64 - (n + 1)) (n + 1) mask kind
 place_step old n mask kind row l is =
     let e : 64 - n ≡ suc (64 - (n + 1)) = omega arith in
-    rw (e, is, masked_at, add-one n) (sym (append_assoc old (record { there = is_masked mask n; guarded = true; resource = Pr n; kind = kind } ∷ []) (place_rows (64 - suc n) (suc n) mask kind)))
+    rw (e, is, masked_at, add-one n) (sym (append_assoc old (record {
+      there = is_masked mask n;
+      guarded = true;
+      resource = Pr n;
+      kind = kind;
+    } ∷ []) (place_rows (64 - suc n) (suc n) mask kind)))
   where
     masked_at : bit mask (min n 16) ≡ is_masked mask n
     masked_at = elim (cases_lt n 16) [

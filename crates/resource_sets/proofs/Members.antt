@@ -28,7 +28,8 @@ head_in x xs = in_head x x xs refl
 -- What the image of a list has.
 pub in_map : {X Y : Type 0} (g : X → Y) (xs : List X) (x : X) → Contains xs x → Contains (map g xs) (g x)
 in_map g [] x c = absurd (not_in_none x c)
-in_map g (y ∷ ys) x c = elim (cases_in y x ys c) [ inl e ↦ in_head (g y) (g x) (map g ys) (ap g e) | inr d ↦ in_tail (g y) (g x) (map g ys) (in_map g ys x d) ]
+in_map g (y ∷ ys) x c =
+    elim (cases_in y x ys c) [ inl e ↦ in_head (g y) (g x) (map g ys) (ap g e) | inr d ↦ in_tail (g y) (g x) (map g ys) (in_map g ys x d) ]
 
 pub from_map : {X Y : Type 0} (g : X → Y) (xs : List X) (y : Y) → Contains (map g xs) y → (x : X) × Contains xs x × (g x ≡ y)
 from_map g [] y c = absurd (not_in_none y c)

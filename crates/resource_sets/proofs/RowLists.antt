@@ -19,12 +19,19 @@ within_append [] back f b = b
 within_append (row ∷ front) back f b = (f.0, within_append front back f.1 b)
 
 -- The accesses of rows with numbers of their sort have numbers of their sort.
-pub within_listed : (qp : ℕ) (rows : List AccessRow) → AreNumbersInRange rows → (a : Access) → Contains (listed qp rows) a → IsNumberInRange a.resource
+pub within_listed : (qp : ℕ) (rows : List AccessRow) → AreNumbersInRange rows → (a : Access) → Contains (listed qp rows) a
+    → IsNumberInRange a.resource
 within_listed qp [] w a c = absurd (not_in_none a c)
 within_listed qp (row ∷ rows) w a c = of row.there c (within_listed qp rows w.1 a)
   where
-    of : (b : Bool) → Contains (if b then access qp row ∷ listed qp rows else listed qp rows) a → (Contains (listed qp rows) a → IsNumberInRange a.resource) → IsNumberInRange a.resource
-    of true d rest = elim (cases_in (access qp row) a (listed qp rows) d) [ inl e ↦ subst (λ (x : Access). IsNumberInRange x.resource) e w.0 | inr k ↦ rest k ]
+    of : (b : Bool) → Contains (if b then access qp row ∷ listed qp rows else listed qp rows) a
+        → (Contains (listed qp rows) a → IsNumberInRange a.resource) → IsNumberInRange a.resource
+    of true d rest =
+        elim (cases_in (access qp row) a (listed qp rows) d) [
+          | inl e ↦ subst (λ (x : Access). IsNumberInRange x.resource) e w.0
+          | inr k ↦
+              rest k
+        ]
     of false d rest = rest d
 
 place_within : (left n mask : ℕ) (kind : Kind) → n + left ≤ 64 → AreNumbersInRange (place_rows left n mask kind)

@@ -91,7 +91,8 @@ has_both s t Ec = refl
 has_both s t Cfm = refl
 
 -- Sets without a common bit have no common resource.
-pub none_met : (s t : ResourceSet) → bit_and s.registers t.registers ≡ 0 → bit_and s.predicates t.predicates ≡ 0 → bit_and s.branches t.branches ≡ 0
+pub none_met : (s t : ResourceSet) → bit_and s.registers t.registers ≡ 0 → bit_and s.predicates t.predicates ≡ 0
+    → bit_and s.branches t.branches ≡ 0
     → (s.unat && t.unat) ≡ false → (s.pfs && t.pfs) ≡ false → (s.lc && t.lc) ≡ false → (s.ec && t.ec) ≡ false → (s.cfm && t.cfm) ≡ false
     → (q : Resource) → (has_resource s q && has_resource t q) ≡ false
 none_met s t r p b u f l e c q = sym (has_both s t q) ∙ of q
@@ -131,14 +132,17 @@ count_more : (b : Bool) (x : Resource) (rest : List Resource) → length (cond b
 count_more true x rest = omega arith
 count_more false x rest = sym (zero-add (length rest))
 
-count_numbered : (h : Resource → Bool) (sort : ℕ → Resource) (left n w : ℕ) → w < 2 ^ left → ((m : ℕ) → m < left → h (sort (n + m)) ≡ bit w m) → length (filter h (numbered sort left n)) ≡ count_ones w
+count_numbered : (h : Resource → Bool) (sort : ℕ → Resource) (left n w : ℕ) → w < 2 ^ left
+    → ((m : ℕ) → m < left → h (sort (n + m)) ≡ bit w m) → length (filter h (numbered sort left n)) ≡ count_ones w
 unfolding numbered
 count_numbered h sort zero n w l e = omega (arith, ones-le 0 w l)
 count_numbered h sort (suc left) n w l e =
     let rest : length (filter h (numbered sort left (suc n))) ≡ count_ones (w / 2)
     = count_numbered h sort left (suc n) (w / 2) (omega (arith, pow-suc 2 left)) (λ m k. let same : n + suc m ≡ suc n + m = omega arith in
     subst (λ (x : ℕ). h (sort x) ≡ bit (w / 2) m) same (e (suc m) (omega arith) ∙ ap (λ (x : ℕ). eqb x 1) (bit_at-suc w m))) in
-    let first : h (sort n) ≡ eqb (w % 2) 1 = (let same : n + 0 ≡ n = omega arith in subst (λ (x : ℕ). h (sort x) ≡ eqb (w % 2) 1) same (e 0 (omega arith) ∙ ap (λ (x : ℕ). eqb x 1) (bit_at_lowest w))) in
+    let first : h (sort n) ≡ eqb (w % 2) 1 =
+    (let same : n + 0 ≡ n = omega arith in subst (λ (x : ℕ). h (sort x) ≡ eqb (w % 2) 1) same
+    (e 0 (omega arith) ∙ ap (λ (x : ℕ). eqb x 1) (bit_at_lowest w))) in
     count_more (h (sort n)) (sort n) (filter h (numbered sort left (suc n)))
     ∙ (λ i. bool_byte (first i) + rest i) ∙ ap (λ (x : ℕ). x + count_ones (w / 2)) (lowest (w % 2) (omega arith)) ∙ sym (ones_step w)
   where
@@ -151,7 +155,8 @@ below : (m limit : ℕ) (b : Bool) → m < limit → (nat_lt m limit && b) ≡ b
 below m limit b l = rw (lt-ltb m limit l) refl
 
 pub count_all : (s : ResourceSet) → s.registers < 2 ^ 128 → s.predicates < 2 ^ 64 → s.branches < 2 ^ 8
-    → count_ones s.registers + (count_ones s.predicates + count_ones s.branches) + ((((bool_byte s.unat + bool_byte s.pfs) + bool_byte s.lc) + bool_byte s.ec) + bool_byte s.cfm) ≡ length (resources_in s)
+    → count_ones s.registers + (count_ones s.predicates + count_ones s.branches)
+    + ((((bool_byte s.unat + bool_byte s.pfs) + bool_byte s.lc) + bool_byte s.ec) + bool_byte s.cfm) ≡ length (resources_in s)
 unfolding resources_in
 count_all s r p b =
     let h : Resource → Bool = has_resource s in
@@ -166,9 +171,13 @@ count_all s r p b =
     let g = filter h (numbered Gr 128 0) in
     let q = filter h (numbered Pr 64 0) in
     let k = filter h (numbered Br 8 0) in
-    sum_of (count_ones s.registers) (count_ones s.predicates) (count_ones s.branches) (bool_byte s.unat) (bool_byte s.pfs) (bool_byte s.lc) (bool_byte s.ec) (bool_byte s.cfm)
-    g q k (filter h others) e1 e2 e3 (o1 ∙ ap (λ (x : ℕ). bool_byte s.unat + x) (o2 ∙ ap (λ (x : ℕ). bool_byte s.pfs + x) (o3 ∙ ap (λ (x : ℕ). bool_byte s.lc + x) (o4 ∙ ap (λ (x : ℕ). bool_byte s.ec + x) o5))))
+    sum_of (count_ones s.registers) (count_ones s.predicates) (count_ones s.branches) (bool_byte s.unat) (bool_byte s.pfs) (bool_byte s.lc)
+    (bool_byte s.ec) (bool_byte s.cfm)
+    g q k (filter h others) e1 e2 e3 (o1 ∙ ap (λ (x : ℕ). bool_byte s.unat + x)
+    (o2 ∙ ap (λ (x : ℕ). bool_byte s.pfs + x) (o3 ∙ ap (λ (x : ℕ). bool_byte s.lc + x) (o4 ∙ ap (λ (x : ℕ). bool_byte s.ec + x) o5))))
   where
-    sum_of : (r p b u f l e c : ℕ) (gs ps bs os : List Resource) → length gs ≡ r → length ps ≡ p → length bs ≡ b → length os ≡ u + (f + (l + (e + (c + 0))))
+    sum_of : (r p b u f l e c : ℕ) (gs ps bs os : List Resource) → length gs ≡ r → length ps ≡ p → length bs ≡ b
+        → length os ≡ u + (f + (l + (e + (c + 0))))
         → r + (p + b) + ((((u + f) + l) + e) + c) ≡ length (((gs ++ ps) ++ bs) ++ os)
-    sum_of r p b u f l e c gs ps bs os x y z w = omega (arith, length-append ((gs ++ ps) ++ bs) os, length-append (gs ++ ps) bs, length-append gs ps)
+    sum_of r p b u f l e c gs ps bs os x y z w =
+        omega (arith, length-append ((gs ++ ps) ++ bs) os, length-append (gs ++ ps) bs, length-append gs ps)

@@ -33,9 +33,15 @@ pub summary_more : (accesses : List Access) (a : Access) (old new : Summary) (wo
     → new.written ≡ bit_or old.written word → ((g : ℕ) → g < 64 → bit word g ≡ writes_guard g a.resource a.kind)
     → IsSummary accesses old → IsSummary (accesses ++ a ∷ []) new
 summary_more accesses a old new word b m w writes h = record {
-  barred = λ q. b q ∙ ap (λ (t : Bool). t || (is_first a.kind && is_resource a.resource q)) (h.barred q) ∙ sym (one_more (λ x. is_first x.kind && is_resource x.resource q) accesses a);
-  made = λ q. m q ∙ ap (λ (t : Bool). t || (is_second a.kind && is_resource a.resource q)) (h.made q) ∙ sym (one_more (λ x. is_second x.kind && is_resource x.resource q) accesses a);
-  written = λ g l. ap (λ (n : ℕ). bit n g) w ∙ bit_or_at old.written word g ∙ (λ i. h.written g l i || writes g l i) ∙ sym (one_more (λ x. writes_guard g x.resource x.kind) accesses a);
+  barred =
+      λ q. b q ∙ ap (λ (t : Bool). t || (is_first a.kind && is_resource a.resource q)) (h.barred q)
+      ∙ sym (one_more (λ x. is_first x.kind && is_resource x.resource q) accesses a);
+  made =
+      λ q. m q ∙ ap (λ (t : Bool). t || (is_second a.kind && is_resource a.resource q)) (h.made q)
+      ∙ sym (one_more (λ x. is_second x.kind && is_resource x.resource q) accesses a);
+  written =
+      λ g l. ap (λ (n : ℕ). bit n g) w ∙ bit_or_at old.written word g ∙ (λ i. h.written g l i || writes g l i)
+      ∙ sym (one_more (λ x. writes_guard g x.resource x.kind) accesses a);
 }
 
 -- An access that clashes with a later one isn't a read.
@@ -52,7 +58,8 @@ clash_second Spill BranchRead h = absurd (true≢false (sym h))
 clash_second first BranchRead h = absurd (true≢false (sym h))
 clash_second first second h = refl
 
-clash_parts : (a b : Access) → is_some (clash a b) ≡ true → (is_resource a.resource b.resource ≡ true) × (is_some (clash_of a.kind b.kind) ≡ true)
+clash_parts : (a b : Access) → is_some (clash a b) ≡ true → (is_resource a.resource b.resource ≡ true)
+    × (is_some (clash_of a.kind b.kind) ≡ true)
 clash_parts a b h = of (is_resource a.resource b.resource) h
   where
     of : (t : Bool) → is_some (if t then clash_of a.kind b.kind else None) ≡ true → (t ≡ true) × (is_some (clash_of a.kind b.kind) ≡ true)
@@ -66,7 +73,8 @@ meets_made a seconds t g h =
     let (b, of_second, broken) = some_of (λ (b : Access). is_some (clash a b)) seconds h in
     let (same, kinds) = clash_parts a b broken in
     let made = any_of (λ (x : Access). is_second x.kind && is_resource x.resource a.resource) seconds b of_second
-    (and_from _ _ (clash_second a.kind b.kind kinds) (ap (is_resource b.resource) (same_resource a.resource b.resource same) ∙ resource_itself b.resource)) in
+    (and_from _ _ (clash_second a.kind b.kind kinds) (ap (is_resource b.resource) (same_resource a.resource b.resource same)
+    ∙ resource_itself b.resource)) in
     (clash_first a.kind b.kind kinds, g.made a.resource ∙ made)
 
 -- Where no resource is barred by the one and made by the other no accesses clash.
@@ -77,13 +85,16 @@ apart firsts seconds s t f g none = elim (cases_Bool (may_clash firsts seconds))
   | inl h ↦ (
       let (a, of_first, some) = some_of (λ (a : Access). list_any (λ (b : Access). is_some (clash a b)) seconds) firsts h in
       let (first, made) = meets_made a seconds t g some in
-      let barred = any_of (λ (x : Access). is_first x.kind && is_resource x.resource a.resource) firsts a of_first (and_from _ _ first (resource_itself a.resource)) in
+      let barred =
+      any_of (λ (x : Access). is_first x.kind && is_resource x.resource a.resource) firsts a of_first
+      (and_from _ _ first (resource_itself a.resource)) in
       absurd (true≢false (sym (and_from _ _ (f.barred a.resource ∙ barred) made) ∙ none a.resource))
       )
 ]
 
 -- An access that is a read, or of no resource that is made, clashes with none.
-pub one_apart : (a : Access) (seconds : List Access) (t : Summary) → IsSummary seconds t → (is_first a.kind && has_resource t.made a.resource) ≡ false → may_clash (a ∷ []) seconds ≡ false
+pub one_apart : (a : Access) (seconds : List Access) (t : Summary) → IsSummary seconds t
+    → (is_first a.kind && has_resource t.made a.resource) ≡ false → may_clash (a ∷ []) seconds ≡ false
 one_apart a seconds t g none = or_false _ ∙ (elim (cases_Bool (list_any (λ b. is_some (clash a b)) seconds)) [
   | inr e ↦ e
   | inl h ↦ (let (first, made) = meets_made a seconds t g h in absurd (true≢false (sym (and_from _ _ first made) ∙ none)))

@@ -10,7 +10,12 @@ use Rattle.rotation.specs.Laws.{DifferentIndexes, DifferentRotatingIndexes, Diff
 
 -- A number below twice the other is cut once at most.
 pub cut_once : (n m : ℕ) → n < m + m → (n % m ≡ n) × (n < m) ⊎ (n % m + m ≡ n) × (m ≤ n)
-cut_once n m h = ⊎_elim (λ low. inl (mod-eq_of_lt low, low)) (λ high. inr (let e = mod-eq-sub-mod high in let f : (n - m) % m ≡ n - m = mod-eq_of_lt (omega arith) in omega arith, high)) (cases_lt n m)
+cut_once n m h =
+    ⊎_elim (λ low. inl (mod-eq_of_lt low, low)) (λ high. inr (
+      let e = mod-eq-sub-mod high in
+          let f : (n - m) % m ≡ n - m = mod-eq_of_lt (omega arith) in omega arith,
+      high,
+    )) (cases_lt n m)
 
 -- Sums with one base are cut at different places.
 pub cut_apart : (k j base m : ℕ) → k < m → j < m → (base < m) ⊎ (base ≡ 0) → (k + base) % m ≡ (j + base) % m → k ≡ j
@@ -27,7 +32,8 @@ rotating_apart f frame k j h i differ same = differ (cut_apart k j f.rrbs.gr (8 
 -- A place of the rotating part isn't one past it.
 rotating_index : (f : FrameShape) (k : ℕ) → k < 8 * f.sor → frame_index f k < 8 * f.sor
 unfolding frame_index
-rotating_index f k h = let low : (k + f.rrbs.gr) % (8 * f.sor) < 8 * f.sor = mod-lt (k + f.rrbs.gr) (omega arith) in grind (arith, nat_tests)
+rotating_index f k h =
+    let low : (k + f.rrbs.gr) % (8 * f.sor) < 8 * f.sor = mod-lt (k + f.rrbs.gr) (omega arith) in grind (arith, nat_tests)
 
 still_place : (f : FrameShape) (k : ℕ) → 8 * f.sor ≤ k → frame_index f k ≡ k
 unfolding frame_index

@@ -10,7 +10,8 @@ DifferentIndexes = (f : FrameShape) → IsFrame f → (k j : ℕ) → k < 96 →
 
 -- Different registers of a frame's rotating part have different numbers.
 abbrev pub DifferentRotatingIndexes : Type 0
-DifferentRotatingIndexes = (f : FrameShape) → IsFrame f → (k j : ℕ) → k < 8 * f.sor → j < 8 * f.sor → k ≢ j → frame_index f k ≢ frame_index f j
+DifferentRotatingIndexes =
+    (f : FrameShape) → IsFrame f → (k j : ℕ) → k < 8 * f.sor → j < 8 * f.sor → k ≢ j → frame_index f k ≢ frame_index f j
 
 -- Different predicates have different numbers.
 abbrev pub DifferentPredicateIndexes : Type 0

@@ -31,10 +31,12 @@ pub record IsFirstFrom (sequence : InsnSequence) (at : ℕ → Place) (n : ℕ) 
 -- What stands at a place of the program: an instruction of the sequence, or a `nop` where the sequence has none.
 pub data Stands (sequence : InsnSequence) (p : Program) (at : ℕ → Place) (place : Place) : Type 0 where
   own : (n : ℕ) → n < length sequence.insns → place ≡ at n → Stands sequence p at place
-  filler : (i : Insn) → insn_at p.bundles place ≡ Some i → IsFiller i → ((n : ℕ) → n < length sequence.insns → place ≡ at n → ⊥) → Stands sequence p at place
+  filler : (i : Insn) → insn_at p.bundles place ≡ Some i → IsFiller i → ((n : ℕ) → n < length sequence.insns → place ≡ at n → ⊥)
+      → Stands sequence p at place
 
 -- A number below the bound whose place it is, or none.
-own_or_none : (at : ℕ → Place) (place : Place) (bound : ℕ) → ((n : ℕ) × (n < bound) × (place ≡ at n)) ⊎ ((n : ℕ) → n < bound → place ≡ at n → ⊥)
+own_or_none : (at : ℕ → Place) (place : Place) (bound : ℕ) → ((n : ℕ) × (n < bound) × (place ≡ at n))
+    ⊎ ((n : ℕ) → n < bound → place ≡ at n → ⊥)
 own_or_none at place zero = inr (λ n inside is. omega arith)
 own_or_none at place (suc bound) = of (own_or_none at place bound) (cases_place place (at bound))
   where
@@ -44,7 +46,8 @@ own_or_none at place (suc bound) = of (own_or_none at place bound) (cases_place 
       | inr less ↦ none n (omega arith) is
     ]
 
-    of : ((n : ℕ) × (n < bound) × (place ≡ at n)) ⊎ ((n : ℕ) → n < bound → place ≡ at n → ⊥) → (place ≡ at bound) ⊎ (place ≡ at bound → ⊥) → ((n : ℕ) × (n < suc bound) × (place ≡ at n)) ⊎ ((n : ℕ) → n < suc bound → place ≡ at n → ⊥)
+    of : ((n : ℕ) × (n < bound) × (place ≡ at n)) ⊎ ((n : ℕ) → n < bound → place ≡ at n → ⊥) → (place ≡ at bound) ⊎ (place ≡ at bound → ⊥)
+        → ((n : ℕ) × (n < suc bound) × (place ≡ at n)) ⊎ ((n : ℕ) → n < suc bound → place ≡ at n → ⊥)
     of (inl (n, inside, is)) same = inl (n, omega arith, is)
     of (inr none) (inl same) = inl (bound, omega arith, same)
     of (inr none) (inr apart) = inr (above none apart)
@@ -54,7 +57,8 @@ module _ (sequence : InsnSequence) (p : Program) (at : ℕ → Place) (spread : 
   pub there : (n : ℕ) → n < length sequence.insns → IsThere sequence p at n
   there n inside = of (slice_get_cases sequence.insns n).1
     where
-      of : ((i : Insn) × (n < length sequence.insns) × (slice_get sequence.insns n ≡ Some i) × (get_or sequence.insns n i ≡ i)) ⊎ ((length sequence.insns ≤ n) × (slice_get sequence.insns n ≡ None)) → IsThere sequence p at n
+      of : ((i : Insn) × (n < length sequence.insns) × (slice_get sequence.insns n ≡ Some i) × (get_or sequence.insns n i ≡ i))
+          ⊎ ((length sequence.insns ≤ n) × (slice_get sequence.insns n ≡ None)) → IsThere sequence p at n
       of (inl (i, below, is, read)) =
           let (j, here, like) = spread.there n i is in
           record { insn = i; other = j; in_sequence = sequence_insn_is sequence.insns n ∙ is; in_program = here; like = like }
@@ -71,7 +75,8 @@ module _ (sequence : InsnSequence) (p : Program) (at : ℕ → Place) (spread : 
       of : (n < m) ⊎ (m ≤ n) → (n ≡ m) ⊎ (n ≡ m → ⊥) → n < m
       of (inl less) same = less
       of (inr more) (inl same) = absurd (not_before_itself (at m) (subst (λ (k : ℕ). IsBefore (at k) (at m)) same before))
-      of (inr more) (inr apart) = absurd (not_before_itself (at n) (before_trans (at n) (at m) (at n) before (spread.rises m n (omega arith) inside)))
+      of (inr more) (inr apart) =
+          absurd (not_before_itself (at n) (before_trans (at n) (at m) (at n) before (spread.rises m n (omega arith) inside)))
 
   -- Two instructions at one place are one.
   pub at_once : (n m : ℕ) → n < length sequence.insns → m < length sequence.insns → at n ≡ at m → n ≡ m
@@ -79,7 +84,8 @@ module _ (sequence : InsnSequence) (p : Program) (at : ℕ → Place) (spread : 
     where
       of : (n < m) ⊎ (m ≤ n) → (m < n) ⊎ (n ≤ m) → n ≡ m
       of (inl less) more = absurd (not_before_itself (at m) (subst (λ (q : Place). IsBefore q (at m)) same (spread.rises n m less below)))
-      of (inr up) (inl more) = absurd (not_before_itself (at n) (subst (λ (q : Place). IsBefore q (at n)) (sym same) (spread.rises m n more inside)))
+      of (inr up) (inl more) =
+          absurd (not_before_itself (at n) (subst (λ (q : Place). IsBefore q (at n)) (sym same) (spread.rises m n more inside)))
       of (inr up) (inr down) = omega arith
 
   -- An instruction is the first at its own place.
@@ -96,7 +102,8 @@ module _ (sequence : InsnSequence) (p : Program) (at : ℕ → Place) (spread : 
       of (inr up) (inr down) = omega arith
 
   -- An instruction that is first in its bundle is the first at or after the bundle's first place.
-  pub first_landing : (n : ℕ) (bundle : ℕ) → n < length sequence.insns → (at n).bundle ≡ bundle → IsHead at n → IsFirstFrom sequence at n (first_of bundle)
+  pub first_landing : (n : ℕ) (bundle : ℕ) → n < length sequence.insns → (at n).bundle ≡ bundle → IsHead at n
+      → IsFirstFrom sequence at n (first_of bundle)
   first_landing n bundle inside is head = record {
     inside = inside;
     from = from;
@@ -108,7 +115,8 @@ module _ (sequence : InsnSequence) (p : Program) (at : ℕ → Place) (spread : 
       from (inr (same, less)) = omega arith
 
   -- The next instruction of the sequence, where there is one, is the first at or after the next place of the program.
-  pub first_next : (n : ℕ) (next : Place) → n + 1 < length sequence.insns → IsNext p.bundles (at n) next → IsFirstFrom sequence at (n + 1) next
+  pub first_next : (n : ℕ) (next : Place) → n + 1 < length sequence.insns → IsNext p.bundles (at n) next
+      → IsFirstFrom sequence at (n + 1) next
   first_next n next inside is = record {
     inside = inside;
     from = λ before. is.first (at (n + 1)) (at_place (n + 1) inside) (spread.rises n (n + 1) (omega arith) inside) before;
@@ -120,19 +128,23 @@ module _ (sequence : InsnSequence) (p : Program) (at : ℕ → Place) (spread : 
       below k (inr apart) less = before_trans (at k) (at n) next (spread.rises k n (omega arith) (omega arith)) is.after
 
   -- No instruction but the next one is the first at or after the next place of the program.
-  pub first_behind_own : (m n : ℕ) (next : Place) → m < length sequence.insns → IsNext p.bundles (at m) next → IsFirstFrom sequence at n next → n ≡ m + 1
+  pub first_behind_own : (m n : ℕ) (next : Place) → m < length sequence.insns → IsNext p.bundles (at m) next
+      → IsFirstFrom sequence at n next → n ≡ m + 1
   first_behind_own m n next inside is f = of (cases_lt m n) (cases_eq n (m + 1))
     where
       of : (m < n) ⊎ (n ≤ m) → (n ≡ m + 1) ⊎ (n ≡ m + 1 → ⊥) → n ≡ m + 1
       of low (inl same) = same
-      of (inl less) (inr apart) = absurd (is.first (at (m + 1)) (at_place (m + 1) (omega (arith, f.inside))) (spread.rises m (m + 1) (omega arith) (omega (arith, f.inside))) (f.first (m + 1) (omega arith)))
+      of (inl less) (inr apart) =
+          absurd (is.first (at (m + 1)) (at_place (m + 1) (omega (arith, f.inside)))
+          (spread.rises m (m + 1) (omega arith) (omega (arith, f.inside))) (f.first (m + 1) (omega arith)))
       of (inr up) (inr apart) = absurd (f.from (elim (cases_eq n m) [
         | inl same ↦ subst (λ (k : ℕ). IsBefore (at k) next) (sym same) is.after
         | inr less ↦ before_trans (at n) (at m) next (spread.rises n m (omega arith) inside) is.after
       ]))
 
   -- Past a `nop` the first one stays the same.
-  pub first_past_filler : (n : ℕ) (place next : Place) → ((k : ℕ) → k < length sequence.insns → place ≡ at k → ⊥) → IsNext p.bundles place next → IsFirstFrom sequence at n place → IsFirstFrom sequence at n next
+  pub first_past_filler : (n : ℕ) (place next : Place) → ((k : ℕ) → k < length sequence.insns → place ≡ at k → ⊥)
+      → IsNext p.bundles place next → IsFirstFrom sequence at n place → IsFirstFrom sequence at n next
   first_past_filler n place next none is f = record {
     inside = f.inside;
     from = λ before. is.first (at n) (at_place n f.inside) (of (place_cases place (at n))) before;
@@ -145,14 +157,16 @@ module _ (sequence : InsnSequence) (p : Program) (at : ℕ → Place) (spread : 
       of (inr (inr after)) = absurd (f.from after)
 
   -- What is first at or after the place behind a `nop` is first at or after the `nop`.
-  pub first_before_filler : (n : ℕ) (place next : Place) → ((k : ℕ) → k < length sequence.insns → place ≡ at k → ⊥) → IsNext p.bundles place next → IsFirstFrom sequence at n next → IsFirstFrom sequence at n place
+  pub first_before_filler : (n : ℕ) (place next : Place) → ((k : ℕ) → k < length sequence.insns → place ≡ at k → ⊥)
+      → IsNext p.bundles place next → IsFirstFrom sequence at n next → IsFirstFrom sequence at n place
   first_before_filler n place next none is f = record {
     inside = f.inside;
     from = λ before. f.from (before_trans (at n) place next before is.after);
     first = λ k less. of k (omega (arith, f.inside)) (f.first k less) (place_cases (at k) place);
   }
     where
-      of : (k : ℕ) → k < length sequence.insns → IsBefore (at k) next → IsBefore (at k) place ⊎ ((at k ≡ place) ⊎ IsBefore place (at k)) → IsBefore (at k) place
+      of : (k : ℕ) → k < length sequence.insns → IsBefore (at k) next → IsBefore (at k) place ⊎ ((at k ≡ place) ⊎ IsBefore place (at k))
+          → IsBefore (at k) place
       of k inside before (inl less) = less
       of k inside before (inr (inl same)) = absurd (none k inside (sym same))
       of k inside before (inr (inr after)) = absurd (is.first (at k) (at_place k inside) after before)
@@ -161,7 +175,9 @@ module _ (sequence : InsnSequence) (p : Program) (at : ℕ → Place) (spread : 
   pub stands : (place : Place) → IsPlaceOf p.bundles place → Stands sequence p at place
   stands place is = of (insn_at p.bundles place) refl is (own_or_none at place (length sequence.insns))
     where
-      of : (o : Option Insn) → insn_at p.bundles place ≡ o → IsSome o → ((n : ℕ) × (n < length sequence.insns) × (place ≡ at n)) ⊎ ((n : ℕ) → n < length sequence.insns → place ≡ at n → ⊥) → Stands sequence p at place
+      of : (o : Option Insn) → insn_at p.bundles place ≡ o → IsSome o
+          → ((n : ℕ) × (n < length sequence.insns) × (place ≡ at n)) ⊎ ((n : ℕ) → n < length sequence.insns → place ≡ at n → ⊥)
+          → Stands sequence p at place
       of None here is owns = absurd cc
       of (Some i) here is (inl (n, inside, at_n)) = own n inside at_n
       of (Some i) here is (inr none) = elim (spread.fillers place i here) [

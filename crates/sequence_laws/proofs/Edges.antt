@@ -22,7 +22,8 @@ use Rattle.sequence_laws.proofs.Fillers.{filler_stays}
 use Rattle.sequence_laws.proofs.Between.{IsThere}
 
 -- What is known past the n-th instruction is the same in the sequence and in the program.
-same_past : (sequence : InsnSequence) (p : Program) (at : ℕ → Place) (n : ℕ) (e : Edge) (f : Pairs) → IsThere sequence p at n → sequence_past sequence.insns (first_of n) e f ≡ pairs_past p (at n) e f
+same_past : (sequence : InsnSequence) (p : Program) (at : ℕ → Place) (n : ℕ) (e : Edge) (f : Pairs) → IsThere sequence p at n
+    → sequence_past sequence.insns (first_of n) e f ≡ pairs_past p (at n) e f
 unfolding sequence_past pairs_past
 same_past sequence p at n e f t =
     ap (λ (o : Option Insn). pairs_past_insn o e f) t.in_sequence
@@ -30,7 +31,8 @@ same_past sequence p at n e f t =
     ∙ sym (ap (λ (o : Option Insn). pairs_past_insn o e f) t.in_program)
 
 -- What is known past an instruction is the same on two walks that come to it with the same facts.
-pub same_facts : (sequence : InsnSequence) (p : Program) (at : ℕ → Place) (n : ℕ) (u w : Walk) (e : Edge) (to_sequence to : Place) → IsThere sequence p at n → end_of u ≡ first_of n → end_of w ≡ at n → facts_in (over_sequence sequence) u ≡ facts_in (over_program p) w
+pub same_facts : (sequence : InsnSequence) (p : Program) (at : ℕ → Place) (n : ℕ) (u w : Walk) (e : Edge) (to_sequence to : Place)
+    → IsThere sequence p at n → end_of u ≡ first_of n → end_of w ≡ at n → facts_in (over_sequence sequence) u ≡ facts_in (over_program p) w
     → facts_in (over_sequence sequence) (goes_on u e to_sequence) ≡ facts_in (over_program p) (goes_on w e to)
 same_facts sequence p at n u w e to_sequence to t ends_sequence ends same =
     ap (λ (q : Place). sequence_past sequence.insns q e (facts_in (over_sequence sequence) u)) ends_sequence
@@ -44,10 +46,12 @@ walk_place p (begins bundle) is = first_is_place p.bundles bundle is.inside
 walk_place p (goes_on w e place) is = is.1.lands
 
 -- A place with one behind it has a next one.
-pub has_next : (bundles : List Bundle) (place later : Place) → IsPlaceOf bundles later → IsBefore place later → (next : Place) × (next_of bundles place ≡ Some next)
+pub has_next : (bundles : List Bundle) (place later : Place) → IsPlaceOf bundles later → IsBefore place later
+    → (next : Place) × (next_of bundles place ≡ Some next)
 has_next bundles place later is after = of (next_of bundles place) refl (next_fits bundles place)
   where
-    of : (o : Option Place) → next_of bundles place ≡ o → MatchOption o ((q : Place) → IsPlaceOf bundles q → IsBefore place q → ⊥) (λ next. IsNext bundles place next) → (next : Place) × (next_of bundles place ≡ Some next)
+    of : (o : Option Place) → next_of bundles place ≡ o → MatchOption o ((q : Place) → IsPlaceOf bundles q → IsBefore place q → ⊥)
+        (λ next. IsNext bundles place next) → (next : Place) × (next_of bundles place ≡ Some next)
     of None e none = absurd (none later is after)
     of (Some next) e n = (next, e)
 
@@ -70,6 +74,7 @@ taken_to_first p from to edge = of (insn_at p.bundles from) edge.leads
 pub filler_untaken : (p : Program) (from to : Place) (i : Insn) → insn_at p.bundles from ≡ Some i → IsFiller i → HasEdge p from Taken to → ⊥
 unfolding edge_end
 filler_untaken p from to i here filler edge =
-    let leads : edge_of p.bundles from (Some i) Taken ≡ Some to = sym (ap (λ (o : Option Insn). edge_of p.bundles from o Taken) here) ∙ edge.leads in
+    let leads : edge_of p.bundles from (Some i) Taken ≡ Some to =
+    sym (ap (λ (o : Option Insn). edge_of p.bundles from o Taken) here) ∙ edge.leads in
     let none : target_at from.bundle None ≡ Some to = sym (ap (target_at from.bundle) (filler_stays i filler)) ∙ leads in
     cc

@@ -74,7 +74,8 @@ pair_bounded f a b apart below bounded = record { each = λ x y h. of x y (f x y
     same : (x y : ℕ) → is_same_pair a (other_of a b) x (other_of x y) ≡ true → (nat_lt x 64 && nat_lt y 64) ≡ true
     same x y h = grind (arith, nat_tests)
 
-    of : (x y : ℕ) (c : Bool) → f x y ≡ c → (c || is_same_pair a (other_of a b) x (other_of x y)) ≡ true → (nat_lt x 64 && nat_lt y 64) ≡ true
+    of : (x y : ℕ) (c : Bool) → f x y ≡ c → (c || is_same_pair a (other_of a b) x (other_of x y)) ≡ true
+        → (nat_lt x 64 && nat_lt y 64) ≡ true
     of x y true e h = bounded.each x y e
     of x y false e h = same x y h
 
@@ -111,6 +112,7 @@ walk_bounded p (begins bundle) program is = entry_bounded p bundle program
 walk_bounded p (goes_on w e place) program is = past_bounded p (end_of w) e (facts_in (over_program p) w) (walk_bounded p w program is.0)
 
 -- Past such a `nop` the same is known.
-pub filler_past : (p : Program) (place : Place) (e : Edge) (f : Pairs) (i : Insn) → insn_at p.bundles place ≡ Some i → IsFiller i → IsBounded f → pairs_past p place e f ≡ f
+pub filler_past : (p : Program) (place : Place) (e : Edge) (f : Pairs) (i : Insn) → insn_at p.bundles place ≡ Some i → IsFiller i
+    → IsBounded f → pairs_past p place e f ≡ f
 unfolding pairs_past
 filler_past p place e f i here filler bounded = ap (λ (o : Option Insn). pairs_past_insn o e f) here ∙ filler_keeps i f e filler bounded

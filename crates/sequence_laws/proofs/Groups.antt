@@ -14,7 +14,8 @@ pub record IsJoined (has_stop : Place → Bool) (w : Walk) (i : Place) : Type 0 
   pub is : (end_of w ≡ i) ⊎ Contains (group_since has_stop w) i
 
 -- A place of the group behind a fall is a joined one.
-pub joined : (has_stop : Place → Bool) (w : Walk) (to i : Place) → Contains (group_since has_stop (goes_on w Falls to)) i → IsJoined has_stop w i
+pub joined : (has_stop : Place → Bool) (w : Walk) (to i : Place) → Contains (group_since has_stop (goes_on w Falls to)) i
+    → IsJoined has_stop w i
 joined has_stop w to i inside = of (has_stop (end_of w)) refl inside
   where
     of : (stop : Bool) → has_stop (end_of w) ≡ stop → Contains (cond stop [] (end_of w ∷ group_since has_stop w)) i → IsJoined has_stop w i
@@ -22,9 +23,11 @@ joined has_stop w to i inside = of (has_stop (end_of w)) refl inside
     of false e c = record { unstopped = e; is = cases_in (end_of w) i (group_since has_stop w) c }
 
 -- Each joined place is of the group behind a fall.
-pub joins : (has_stop : Place → Bool) (w : Walk) (to i : Place) → IsJoined has_stop w i → Contains (group_since has_stop (goes_on w Falls to)) i
+pub joins : (has_stop : Place → Bool) (w : Walk) (to i : Place) → IsJoined has_stop w i
+    → Contains (group_since has_stop (goes_on w Falls to)) i
 joins has_stop w to i joined =
-    rw (falls_group has_stop w to joined.unstopped) (elim joined.is [ inl same ↦ in_head (end_of w) i (group_since has_stop w) same | inr c ↦ in_tail (end_of w) i (group_since has_stop w) c ])
+    rw (falls_group has_stop w to joined.unstopped) (elim joined.is
+    [ inl same ↦ in_head (end_of w) i (group_since has_stop w) same | inr c ↦ in_tail (end_of w) i (group_since has_stop w) c ])
 
 -- A group that isn't empty has a latest place.
 pub record HasLatest (places : List Place) : Type 0 where

@@ -24,7 +24,8 @@ none_stops sequence p at = record {
   unstopped = λ n inside none place between. refl;
 }
 
-module _ (sequence : InsnSequence) (p : Program) (at : ℕ → Place) (n : ℕ) (program : IsProgram p) (spread : IsSpread sequence p at) (inside : n < length sequence.insns) where
+module _ (sequence : InsnSequence) (p : Program) (at : ℕ → Place) (n : ℕ) (program : IsProgram p) (spread : IsSpread sequence p at)
+    (inside : n < length sequence.insns) where
   -- The walk of the sequence for one of the program to the instruction.
   back_at : (w : Walk) → EndsIn (over_program p) (at n) w → HasCounterpart sequence p at unstopped unstopped w n
   back_at w there =
@@ -46,7 +47,8 @@ module _ (sequence : InsnSequence) (p : Program) (at : ℕ → Place) (n : ℕ) 
       reached : (u : Walk) × EndsIn (over_sequence sequence) (first_of n) u
       reached = let (w, there) = meet.reached in let u = back_at w there in (u.walk, u.there)
 
-      exact : (x y : ℕ) → f x y ≡ false → (u : Walk) × EndsIn (over_sequence sequence) (first_of n) u × (facts_in (over_sequence sequence) u x y ≡ false)
+      exact : (x y : ℕ) → f x y ≡ false → (u : Walk) × EndsIn (over_sequence sequence) (first_of n) u
+          × (facts_in (over_sequence sequence) u x y ≡ false)
       exact x y lacks =
           let (w, there, missing) = meet.exact x y lacks in
           let u = back_at w there in

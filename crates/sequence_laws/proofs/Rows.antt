@@ -29,7 +29,8 @@ pub sequence_numbered : (insns : List Insn) (place : Place) → IsSome (sequence
 unfolding sequence_insn
 sequence_numbered insns place h = of (place.slot == 0) refl (slice_get insns place.bundle) refl h
   where
-    of : (b : Bool) → (place.slot == 0) ≡ b → (o : Option Insn) → slice_get insns place.bundle ≡ o → IsSome (cond b o None) → IsNumbered insns place
+    of : (b : Bool) → (place.slot == 0) ≡ b → (o : Option Insn) → slice_get insns place.bundle ≡ o → IsSome (cond b o None)
+        → IsNumbered insns place
     of true e (Some i) there h = record {
       number = place.bundle;
       inside = slice_get_within insns place.bundle i there;
@@ -60,10 +61,13 @@ pub record IsSequenceFall (sequence : InsnSequence) (n : ℕ) (to : Place) : Typ
   pub inside : n + 1 < length sequence.insns
   pub leads : to ≡ first_of (n + 1)
 
-pub sequence_fall_is : (sequence : InsnSequence) (n : ℕ) (to : Place) → HasSequenceEdge sequence (first_of n) Falls to → IsSequenceFall sequence n to
+pub sequence_fall_is : (sequence : InsnSequence) (n : ℕ) (to : Place) → HasSequenceEdge sequence (first_of n) Falls to
+    → IsSequenceFall sequence n to
 unfolding sequence_next
-sequence_fall_is sequence n to edge = of (nat_lt (n + 1) (length sequence.insns)) refl (falls_next (over_sequence sequence) (first_of n) to edge)
+sequence_fall_is sequence n to edge =
+    of (nat_lt (n + 1) (length sequence.insns)) refl (falls_next (over_sequence sequence) (first_of n) to edge)
   where
-    of : (more : Bool) → nat_lt (n + 1) (length sequence.insns) ≡ more → cond more (Some (first_of (n + 1))) None ≡ Some to → IsSequenceFall sequence n to
+    of : (more : Bool) → nat_lt (n + 1) (length sequence.insns) ≡ more → cond more (Some (first_of (n + 1))) None ≡ Some to
+        → IsSequenceFall sequence n to
     of true e h = record { inside = grind (arith, nat_tests); leads = cc }
     of false e h = absurd cc

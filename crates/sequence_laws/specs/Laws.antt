@@ -13,7 +13,8 @@ use Rattle.sequence_laws.specs.Spreads.{IsSpread, AreStops, KeepsSlotRules}
 -- What is known at an instruction's place in the program is known at the instruction in the sequence. Stops change no fact.
 abbrev pub KnownInTheSequence : Type 0
 KnownInTheSequence =
-    (sequence : InsnSequence) (p : Program) (at : ℕ → Place) (n : ℕ) (known : Known) → IsProgram p → IsSpread sequence p at → n < length sequence.insns
+    (sequence : InsnSequence) (p : Program) (at : ℕ → Place) (n : ℕ) (known : Known) → IsProgram p → IsSpread sequence p at
+    → n < length sequence.insns
     → IsKnownAt (over_program p) (at n) known → IsKnownAt (over_sequence sequence) (first_of n) known
 
 -- Where the program has a violation the sequence has one.

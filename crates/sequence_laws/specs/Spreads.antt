@@ -40,7 +40,8 @@ pub record IsSpread (sequence : InsnSequence) (p : Program) (at : ℕ → Place)
   pub there : (n : ℕ) (i : Insn) → slice_get sequence.insns n ≡ Some i → (j : Insn) × (insn_at p.bundles (at n) ≡ Some j) × DoesLike i j
   pub rises : (n m : ℕ) → n < m → m < length sequence.insns → IsBefore (at n) (at m)
   -- Every other place has a nop.
-  pub fillers : (place : Place) (j : Insn) → insn_at p.bundles place ≡ Some j → ((n : ℕ) × (n < length sequence.insns) × (place ≡ at n)) ⊎ IsFiller j
+  pub fillers : (place : Place) (j : Insn) → insn_at p.bundles place ≡ Some j
+      → ((n : ℕ) × (n < length sequence.insns) × (place ≡ at n)) ⊎ IsFiller j
   -- The entries are the bundles of the sequence's entries, which are first there and declare the same.
   pub entries : (bundle : ℕ) → IsEntry p bundle → (n : ℕ) × IsSequenceEntry sequence n × ((at n).bundle ≡ bundle) × IsHead at n
   pub sequence_entries : (n : ℕ) → IsSequenceEntry sequence n → IsEntry p (at n).bundle × IsHead at n
@@ -48,7 +49,8 @@ pub record IsSpread (sequence : InsnSequence) (p : Program) (at : ℕ → Place)
   -- The targets of branches are the bundles of the sequence's targets, which are first there.
   pub targets : (bundle : ℕ) (n : ℕ) → n < length sequence.insns → HasEdge p (at n) Taken (first_of bundle)
       → (m : ℕ) × HasSequenceEdge sequence (first_of n) Taken (first_of m) × ((at m).bundle ≡ bundle) × IsHead at m
-  pub sequence_targets : (n m : ℕ) → HasSequenceEdge sequence (first_of n) Taken (first_of m) → HasEdge p (at n) Taken (first_of (at m).bundle) × IsHead at m
+  pub sequence_targets : (n m : ℕ) → HasSequenceEdge sequence (first_of n) Taken (first_of m)
+      → HasEdge p (at n) Taken (first_of (at m).bundle) × IsHead at m
 
 -- The place stands from the n-th instruction on and before the next one.
 pub record IsBetween (p : Program) (at : ℕ → Place) (n : ℕ) (place : Place) : Type 0 where
@@ -59,8 +61,10 @@ pub record IsBetween (p : Program) (at : ℕ → Place) (n : ℕ) (place : Place
 -- The stops of the program are those of the sequence: one follows a place between two neighbours exactly where the sequence has
 -- one behind the first of them.
 pub record AreStops (sequence : InsnSequence) (p : Program) (at : ℕ → Place) (sequence_stop has_stop : Place → Bool) : Type 0 where
-  pub stopped : (n : ℕ) → n + 1 < length sequence.insns → sequence_stop (first_of n) ≡ true → (place : Place) × IsBetween p at n place × (has_stop place ≡ true)
-  pub unstopped : (n : ℕ) → n + 1 < length sequence.insns → sequence_stop (first_of n) ≡ false → (place : Place) → IsBetween p at n place → has_stop place ≡ false
+  pub stopped : (n : ℕ) → n + 1 < length sequence.insns → sequence_stop (first_of n) ≡ true
+      → (place : Place) × IsBetween p at n place × (has_stop place ≡ true)
+  pub unstopped : (n : ℕ) → n + 1 < length sequence.insns → sequence_stop (first_of n) ≡ false → (place : Place) → IsBetween p at n place
+      → has_stop place ≡ false
 
 -- Where `alloc` and `clrrrb` stand, for the rules on slots. An `alloc` that is first in its bundle stands in slot 0. A stop
 -- between it and the instruction before it follows the place right before it. A stop behind a `clrrrb` follows it right away.
@@ -71,4 +75,5 @@ pub record KeepsSlotRules (sequence : InsnSequence) (p : Program) (at : ℕ → 
       → (place : Place) → IsBetween p at n place → has_stop place ≡ true → next_of p.bundles place ≡ Some (at (n + 1))
   pub clear_stop : (n : ℕ) → n + 1 < length sequence.insns → clears_at (over_sequence sequence) (first_of n) ≡ true
       → (place : Place) → IsBetween p at n place → has_stop place ≡ true → place ≡ at n
-  pub clear_last : (n : ℕ) → n + 1 ≡ length sequence.insns → clears_at (over_sequence sequence) (first_of n) ≡ true → next_of p.bundles (at n) ≡ None
+  pub clear_last : (n : ℕ) → n + 1 ≡ length sequence.insns → clears_at (over_sequence sequence) (first_of n) ≡ true
+      → next_of p.bundles (at n) ≡ None

@@ -22,23 +22,28 @@ pub inside_new : (f : FrameShape) (sof sol sor r : ℕ) → r < 32 + sof → spo
 unfolding spot
 inside_new f sof sol sor r h e = grind arith
 
-at_place : (old new : FrameShape) (d : Spot) (pfs : ℕ) (m : Memory) → alloc_fault old new ≡ None → allocated old new (Some d) pfs m ≡ falls (SetFrame Resized new ∷ set_at (Some d) (record { value = pfs; nat = false }) []) m
+at_place : (old new : FrameShape) (d : Spot) (pfs : ℕ) (m : Memory) → alloc_fault old new ≡ None
+    → allocated old new (Some d) pfs m ≡ falls (SetFrame Resized new ∷ set_at (Some d) (record { value = pfs; nat = false }) []) m
 unfolding alloc_fault_within
 at_place old new d pfs m fault = grind arith
 
-not_at_place : (old new : FrameShape) (d : Spot) (pfs : ℕ) (m : Memory) (k : FaultKind) → alloc_fault old new ≡ Some k → allocated old new (Some d) pfs m ≡ faults k m
+not_at_place : (old new : FrameShape) (d : Spot) (pfs : ℕ) (m : Memory) (k : FaultKind) → alloc_fault old new ≡ Some k
+    → allocated old new (Some d) pfs m ≡ faults k m
 unfolding alloc_fault_within
 not_at_place old new d pfs m k fault = grind arith
 
 -- An `alloc` whose target is in the new frame.
-pub allocated_fits : (old new : FrameShape) (r pfs : ℕ) (m : Memory) → spot new r ≢ None → alloc_fault old new ≡ None → allocated old new (spot new r) pfs m ≡ falls (SetFrame Resized new ∷ set_at (spot new r) (record { value = pfs; nat = false }) []) m
+pub allocated_fits : (old new : FrameShape) (r pfs : ℕ) (m : Memory) → spot new r ≢ None → alloc_fault old new ≡ None
+    → allocated old new (spot new r) pfs m ≡ falls (SetFrame Resized new ∷ set_at (spot new r) (record { value = pfs; nat = false }) []) m
 allocated_fits old new r pfs m some fault = by_place (spot new r) refl
   where
-    by_place : (o : Option Spot) → spot new r ≡ o → allocated old new o pfs m ≡ falls (SetFrame Resized new ∷ set_at o (record { value = pfs; nat = false }) []) m
+    by_place : (o : Option Spot) → spot new r ≡ o → allocated old new o pfs m
+        ≡ falls (SetFrame Resized new ∷ set_at o (record { value = pfs; nat = false }) []) m
     by_place None e = absurd (some e)
     by_place (Some d) e = at_place old new d pfs m fault
 
-pub allocated_fails : (old new : FrameShape) (r pfs : ℕ) (m : Memory) (k : FaultKind) → spot new r ≢ None → alloc_fault old new ≡ Some k → allocated old new (spot new r) pfs m ≡ faults k m
+pub allocated_fails : (old new : FrameShape) (r pfs : ℕ) (m : Memory) (k : FaultKind) → spot new r ≢ None → alloc_fault old new ≡ Some k
+    → allocated old new (spot new r) pfs m ≡ faults k m
 allocated_fails old new r pfs m k some fault = by_place (spot new r) refl
   where
     by_place : (o : Option Spot) → spot new r ≡ o → allocated old new o pfs m ≡ faults k m

@@ -189,8 +189,10 @@ all_up_to_three = record { none = refl; one = λ g. refl; two = λ g. refl; thre
 all_hold : (ws : List Wanted) → (facts_hold ws ≡ true) × ((front_holds ws ≡ true) × (end_takes_next ws ≡ true))
 all_hold ws =
     let all = for_every holds_all all_up_to_three (λ w x y z ws. rw (too_long w x y z ws true, too_long w x y z ws false) refl) ws in
-    let others = right (facts_hold ws) (front_holds ws && end_takes_next ws) all in
-    (left (facts_hold ws) (front_holds ws && end_takes_next ws) all, (left (front_holds ws) (end_takes_next ws) others, right (front_holds ws) (end_takes_next ws) others))
+    let others = right (facts_hold ws) (front_holds ws && end_takes_next ws) all in (
+      left (facts_hold ws) (front_holds ws && end_takes_next ws) all,
+      (left (front_holds ws) (end_takes_next ws) others, right (front_holds ws) (end_takes_next ws) others),
+    )
 
 pub facts_at : (ws : List Wanted) (end : Bool) (code : ℕ) (ks : List ℕ) → laid_out ws end ≡ Some (code, ks) → AreFacts ws end code ks
 facts_at ws end code ks is =
@@ -214,10 +216,12 @@ front_of-append (w ∷ []) x = refl
 front_of-append (w ∷ y ∷ ws) x = ap (λ (l : List Wanted). w ∷ l) (front_of-append (y ∷ ws) x)
 
 -- A list without its last one has a layout where the whole has one.
-pub front_is_laid_out : (w : Wanted) (ws : List Wanted) (x : Wanted) (end : Bool) → IsSome (laid_out (w ∷ ws ++ x ∷ []) end) → IsSome (laid_out (w ∷ ws) false)
+pub front_is_laid_out : (w : Wanted) (ws : List Wanted) (x : Wanted) (end : Bool) → IsSome (laid_out (w ∷ ws ++ x ∷ []) end)
+    → IsSome (laid_out (w ∷ ws) false)
 front_is_laid_out w ws x end whole =
     let list = w ∷ ws ++ x ∷ [] in
-    let here : is_laid_out_if (laid_out list end) (front_of list) ≡ true = at_bool (λ end. is_laid_out_if (laid_out list end) (front_of list)) (all_hold list).1.0 end in
+    let here : is_laid_out_if (laid_out list end) (front_of list) ≡ true =
+    at_bool (λ end. is_laid_out_if (laid_out list end) (front_of list)) (all_hold list).1.0 end in
     let there : is_laid_out_if (laid_out list end) (w ∷ ws) ≡ true =
     subst (λ front. is_laid_out_if (laid_out list end) front ≡ true) (front_of-append (w ∷ ws) x) here in
     entailed (is_some (laid_out list end)) (is_some (laid_out (w ∷ ws) false)) there whole

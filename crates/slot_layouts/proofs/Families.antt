@@ -50,7 +50,8 @@ is_x : (qp : ℕ) (x : Op) → AsRow rows_x (row_index_x (opcode_of (slot_op x))
 is_x qp x h = grind arith
 
 -- Those of the B family stand in the slots of theirs.
-branch_place : (qp : ℕ) (x : Op) (u : ExecutionUnit) (slot : ℕ) → AsRow rows_b (row_index_b (opcode_of x)) (record { qp = qp; op = x }) → IsTrue (has_place (class_of x) u slot) ↔ ((u ≡ units.B) × IsBranchSlot x slot)
+branch_place : (qp : ℕ) (x : Op) (u : ExecutionUnit) (slot : ℕ) → AsRow rows_b (row_index_b (opcode_of x)) (record { qp = qp; op = x })
+    → IsTrue (has_place (class_of x) u slot) ↔ ((u ≡ units.B) × IsBranchSlot x slot)
 branch_place qp x u slot h = grind (arith, nat_tests)
 
 -- The place of a class is one of its family.
@@ -89,7 +90,8 @@ kind_of i u slot (inr (inr (inr (inl a)))) h = of_b i u slot a h
 kind_of i u slot (inr (inr (inr (inr (inl a))))) h = of_f i u slot a (rw (is_f i.qp i.op (row_f i a)) at h)
 kind_of i u slot (inr (inr (inr (inr (inr a))))) h = of_x i u slot a (rw (is_x i.qp i.op (row_of_x i a).0) at h)
 
-pub place_fits : (i : Insn) (u : ExecutionUnit) (slot : ℕ) → slot < 3 → IsListed i → IsTrue (has_place (class_of i.op) u slot) → Fits i u slot
+pub place_fits : (i : Insn) (u : ExecutionUnit) (slot : ℕ) → slot < 3 → IsListed i → IsTrue (has_place (class_of i.op) u slot)
+    → Fits i u slot
 place_fits i u slot less listed h = record { place = less; kind = kind_of i u slot listed h }
 
 -- The class of an instruction that fits has this place.
@@ -107,5 +109,6 @@ pub fits_place : (i : Insn) (u : ExecutionUnit) (slot : ℕ) → Fits i u slot �
 fits_place i u slot fits = from_kind i u slot fits.kind
 
 -- Of a listed instruction, the places of its class are those that it fits.
-pub place_is_fit : (i : Insn) (u : ExecutionUnit) (slot : ℕ) → slot < 3 → IsListed i → IsTrue (has_place (class_of i.op) u slot) ↔ Fits i u slot
+pub place_is_fit : (i : Insn) (u : ExecutionUnit) (slot : ℕ) → slot < 3 → IsListed i → IsTrue (has_place (class_of i.op) u slot)
+    ↔ Fits i u slot
 place_is_fit i u slot less listed = (place_fits i u slot less listed, fits_place i u slot)

@@ -33,7 +33,8 @@ use Rattle.slot_layouts.proofs.Families.{place_fits}
 use Rattle.slot_layouts.proofs.FirstLayouts.{is_template}
 
 -- The instructions change neither which places there are nor where the stops are.
-stops_of_contents : (code slot : ℕ) (us : List ExecutionUnit) (ks : List ℕ) (is : List Insn) → stops_after code (contents us ks is) slot ≡ stops_after code (contents us [] []) slot
+stops_of_contents : (code slot : ℕ) (us : List ExecutionUnit) (ks : List ℕ) (is : List Insn)
+    → stops_after code (contents us ks is) slot ≡ stops_after code (contents us [] []) slot
 stops_of_contents code slot [] ks is = refl
 stops_of_contents code slot (u ∷ []) ks is = refl
 stops_of_contents code slot (u ∷ units.L ∷ []) ks is = refl
@@ -65,7 +66,8 @@ pub record IsPut (us : List ExecutionUnit) (ks : List ℕ) (is : List Insn) (slo
   pub at : slice_get us slot ≡ Some unit
   pub here : slot_insn (contents us ks is) slot ≡ Some (slot_content slot unit ks is)
 
-pub put_at : (us : List ExecutionUnit) (ks : List ℕ) (is : List Insn) (slot : ℕ) → is_shape us ≡ true → slot ≤ last_slot (contents us [] []) → IsPut us ks is slot
+pub put_at : (us : List ExecutionUnit) (ks : List ℕ) (is : List Insn) (slot : ℕ) → is_shape us ≡ true → slot ≤ last_slot (contents us [] [])
+    → IsPut us ks is slot
 put_at [] ks is slot shape less = absurd (cc)
 put_at (u ∷ []) ks is slot shape less = absurd (cc)
 put_at (u ∷ units.L ∷ []) ks is slot shape less = absurd (cc)
@@ -99,7 +101,8 @@ rest_rises k [] h = refl
 rest_rises k (l ∷ ks) h = (rising_pair k l ks h).1
 
 -- The slot of an instruction holds it.
-pub content-listed : (u : ExecutionUnit) (n k : ℕ) (i : Insn) (ks : List ℕ) (is : List Insn) → are_rising ks ≡ true → slice_get ks n ≡ Some k → slice_get is n ≡ Some i
+pub content-listed : (u : ExecutionUnit) (n k : ℕ) (i : Insn) (ks : List ℕ) (is : List Insn) → are_rising ks ≡ true
+    → slice_get ks n ≡ Some k → slice_get is n ≡ Some i
     → slot_content k u ks is ≡ i
 content-listed u n k i [] is rising at there = absurd (cc)
 content-listed u n k i (l ∷ ks) [] rising at there = absurd (cc)
@@ -113,7 +116,8 @@ content-listed u (suc n) k i (l ∷ ks) (j ∷ is) rising at there =
     rw other (content-listed u n k i ks is (rest_rises l ks rising) at there)
 
 -- The slot of none holds the nop.
-pub content-other : (u : ExecutionUnit) (slot : ℕ) (ks : List ℕ) (is : List Insn) → ((n : ℕ) → slice_get ks n ≢ Some slot) → slot_content slot u ks is ≡ nop_of u
+pub content-other : (u : ExecutionUnit) (slot : ℕ) (ks : List ℕ) (is : List Insn) → ((n : ℕ) → slice_get ks n ≢ Some slot)
+    → slot_content slot u ks is ≡ nop_of u
 content-other u slot [] is none = refl
 content-other u slot (k ∷ ks) [] none = refl
 content-other u slot (k ∷ ks) (i ∷ is) none = of (eqb slot k) refl (content-other u slot ks is (λ n at. none (suc n) at))
@@ -137,7 +141,8 @@ unfolding rows_x listed
 long_nop_fits = record { place = lit< tt; kind = (of_row_x _ (grind arith) (lit< tt), refl) }
 
 -- What stands in a slot fits it, where the nop does.
-content_fits : (us : List ExecutionUnit) (ws : List Wanted) (ks : List ℕ) (is : List Insn) (k : ℕ) (u : ExecutionUnit) → slice_get us k ≡ Some u → k < 3
+content_fits : (us : List ExecutionUnit) (ws : List Wanted) (ks : List ℕ) (is : List Insn) (k : ℕ) (u : ExecutionUnit)
+    → slice_get us k ≡ Some u → k < 3
     → all_fit us ws ks ≡ true → AreOf ws is → Fits (nop_of u) u k → Fits (slot_content k u ks is) u k
 content_fits us [] [] is k u at less fit of nop = nop
 content_fits us [] (l ∷ ks) is k u at less fit of nop = absurd (cc)
@@ -148,7 +153,8 @@ content_fits us (w ∷ ws) (l ∷ ks) (i ∷ is) k u at less fit (listed, class,
   where
     here : k ≡ l → Fits i u k
     here same =
-        let one : fits_slot (slice_get us k) w.class k ≡ true = subst (λ l. fits_slot (slice_get us l) w.class l ≡ true) (sym same) (left _ _ fit) in
+        let one : fits_slot (slice_get us k) w.class k ≡ true =
+        subst (λ l. fits_slot (slice_get us l) w.class l ≡ true) (sym same) (left _ _ fit) in
         let two : fits_slot (Some u) w.class k ≡ true = subst (λ o. fits_slot o w.class k ≡ true) at one in
         place_fits i u k less listed (subst (λ c. has_place c u k ≡ true) (sym class) two)
 
@@ -156,7 +162,8 @@ content_fits us (w ∷ ws) (l ∷ ks) (i ∷ is) k u at less fit (listed, class,
     chosen true same rest = here (eqb-true k l same)
     chosen false same rest = rest
 
-contents_fit : (us : List ExecutionUnit) (ws : List Wanted) (ks : List ℕ) (is : List Insn) → is_shape us ≡ true → all_fit us ws ks ≡ true → AreOf ws is → FitUnits us (contents us ks is)
+contents_fit : (us : List ExecutionUnit) (ws : List Wanted) (ks : List ℕ) (is : List Insn) → is_shape us ≡ true → all_fit us ws ks ≡ true
+    → AreOf ws is → FitUnits us (contents us ks is)
 contents_fit [] ws ks is shape fit of = absurd (cc)
 contents_fit (u ∷ []) ws ks is shape fit of = absurd (cc)
 contents_fit (u ∷ units.L ∷ []) ws ks is shape fit of = absurd (cc)
@@ -168,7 +175,8 @@ contents_fit (u ∷ units.L ∷ w ∷ []) ws ks is shape fit of = (
 )
 contents_fit (u ∷ v ∷ w ∷ []) ws ks is shape fit of =
     let later : (is_narrow v && is_narrow w) ≡ true = right (is_narrow u) (is_narrow v && is_narrow w) shape in (
-      content_fits (u ∷ v ∷ w ∷ []) ws ks is 0 u refl (lit< tt) fit of (nop_fits u 0 (lit< tt) (left (is_narrow u) (is_narrow v && is_narrow w) shape)),
+      content_fits (u ∷ v ∷ w ∷ []) ws ks is 0 u refl (lit< tt) fit
+          of (nop_fits u 0 (lit< tt) (left (is_narrow u) (is_narrow v && is_narrow w) shape)),
       content_fits (u ∷ v ∷ w ∷ []) ws ks is 1 v refl (lit< tt) fit of (nop_fits v 1 (lit< tt) (left (is_narrow v) (is_narrow w) later)),
       content_fits (u ∷ v ∷ w ∷ []) ws ks is 2 w refl (lit< tt) fit of (nop_fits w 2 (lit< tt) (right (is_narrow v) (is_narrow w) later)),
       (λ same. cc),
@@ -190,7 +198,8 @@ shape_of_template code template =
     of (Some shape) b some h = h
 
 -- A template with a layout of the classes of listed instructions makes a bundle of these.
-pub filled_is_bundle : (ws : List Wanted) (end : Bool) (code : ℕ) (ks : List ℕ) (is : List Insn) → is_layout code ws end ks ≡ true → AreOf ws is
+pub filled_is_bundle : (ws : List Wanted) (end : Bool) (code : ℕ) (ks : List ℕ) (is : List Insn) → is_layout code ws end ks ≡ true
+    → AreOf ws is
     → IsTemplate code × IsBundle (filled code ks is)
 filled_is_bundle ws end code ks is layout of =
     let fit : all_fit (units_of code) ws ks ≡ true = left _ _ layout in

@@ -33,18 +33,21 @@ with_code ws end code (Some ks) l is h =
     let same : (code, ks) ≡ l = cc in
     subst (λ l. is_layout l.0 ws end l.1 ≡ true) same (found_passes (is_layout code ws end) rising_slots ks is)
 
-below_is_layout : (bound : ℕ) (ws : List Wanted) (end : Bool) (l : ℕ × List ℕ) → first_below bound ws end ≡ Some l → is_layout l.0 ws end l.1 ≡ true
+below_is_layout : (bound : ℕ) (ws : List Wanted) (end : Bool) (l : ℕ × List ℕ) → first_below bound ws end ≡ Some l
+    → is_layout l.0 ws end l.1 ≡ true
 unfolding first_below
 below_is_layout zero ws end l h = absurd (cc)
 below_is_layout (suc code) ws end l h = of (first_below code ws end) refl h (below_is_layout code ws end l)
   where
-    of : (o : Option (ℕ × List ℕ)) → first_below code ws end ≡ o → option_or o (option_map (λ ks. (code, ks)) (least_slots code ws end)) ≡ Some l
+    of : (o : Option (ℕ × List ℕ)) → first_below code ws end ≡ o → option_or o (option_map (λ ks. (code, ks)) (least_slots code ws end))
+        ≡ Some l
         → (first_below code ws end ≡ Some l → is_layout l.0 ws end l.1 ≡ true) → is_layout l.0 ws end l.1 ≡ true
     of None is h earlier = with_code ws end code (least_slots code ws end) l refl h
     of (Some first) is h earlier = earlier (cc)
 
 -- What is laid out is a layout.
-pub laid_out_is_layout : (ws : List Wanted) (end : Bool) (code : ℕ) (ks : List ℕ) → laid_out ws end ≡ Some (code, ks) → is_layout code ws end ks ≡ true
+pub laid_out_is_layout : (ws : List Wanted) (end : Bool) (code : ℕ) (ks : List ℕ) → laid_out ws end ≡ Some (code, ks)
+    → is_layout code ws end ks ≡ true
 unfolding laid_out
 laid_out_is_layout ws end code ks h = below_is_layout 32 ws end (code, ks) h
 
@@ -53,7 +56,8 @@ unlike : (units : List ExecutionUnit) (ws : List Wanted) (ks : List ℕ) → len
 unlike units [] [] h = absurd (h refl)
 unlike units [] (k ∷ ks) h = refl
 unlike units (w ∷ ws) [] h = refl
-unlike units (w ∷ ws) (k ∷ ks) h = and_right (fits_slot (slice_get units k) w.class k) (all_fit units ws ks) (unlike units ws ks (λ e. h (ap suc e)))
+unlike units (w ∷ ws) (k ∷ ks) h =
+    and_right (fits_slot (slice_get units k) w.class k) (all_fit units ws ks) (unlike units ws ks (λ e. h (ap suc e)))
 
 pub unlike_layout : (code : ℕ) (ws : List Wanted) (end : Bool) (ks : List ℕ) → length ks ≢ length ws → is_layout code ws end ks ≡ false
 unlike_layout code ws end ks h = rw (unlike (units_of code) ws ks h) refl
@@ -65,11 +69,13 @@ differ true b false is other = λ e. cc
 differ false b true is other = λ e. cc
 
 -- Where the stop at the end of the template isn't as it is wanted, no list is a layout.
-not_at_end : (stops : List ℕ) (ws : List Wanted) (ks : List ℕ) (end : Bool) → is_one_of 2 stops ≢ end → stops_are_wanted stops ws ks end ≡ false
+not_at_end : (stops : List ℕ) (ws : List Wanted) (ks : List ℕ) (end : Bool) → is_one_of 2 stops ≢ end
+    → stops_are_wanted stops ws ks end ≡ false
 not_at_end stops [] ks end other = refl
 not_at_end stops (w ∷ []) [] end other = refl
 not_at_end stops (w ∷ x ∷ ws) [] end other = refl
-not_at_end stops (w ∷ []) (k ∷ ks) end other = and_right (has_stop_where stops k 2 false) (has_stop_where stops 2 3 end) (of (is_one_of 2 stops) end other)
+not_at_end stops (w ∷ []) (k ∷ ks) end other =
+    and_right (has_stop_where stops k 2 false) (has_stop_where stops 2 3 end) (of (is_one_of 2 stops) end other)
   where
     of : (b end : Bool) → b ≢ end → (length {A = ℕ} (cond b (2 ∷ []) []) == cond end 1 0) ≡ false
     of true true other = absurd (other refl)
@@ -77,7 +83,8 @@ not_at_end stops (w ∷ []) (k ∷ ks) end other = and_right (has_stop_where sto
     of false true other = refl
     of false false other = absurd (other refl)
 not_at_end stops (w ∷ x ∷ ws) (k ∷ []) end other = refl
-not_at_end stops (w ∷ x ∷ ws) (k ∷ l ∷ ks) end other = and_right (has_stop_where stops k l x.gap) (stops_are_wanted stops (x ∷ ws) (l ∷ ks) end) (not_at_end stops (x ∷ ws) (l ∷ ks) end other)
+not_at_end stops (w ∷ x ∷ ws) (k ∷ l ∷ ks) end other =
+    and_right (has_stop_where stops k l x.gap) (stops_are_wanted stops (x ∷ ws) (l ∷ ks) end) (not_at_end stops (x ∷ ws) (l ∷ ks) end other)
 
 no_list : (p : List ℕ → Bool) (lists : List (List ℕ)) → ((ks : List ℕ) → p ks ≡ false) → find p lists ≡ None
 no_list p [] h = refl
@@ -86,13 +93,15 @@ no_list p (ks ∷ lists) h = rw (h ks) (no_list p lists h)
 pub none_at_end : (code : ℕ) (ws : List Wanted) (end : Bool) → is_one_of 2 (stops_of code) ≢ end → least_slots code ws end ≡ None
 none_at_end code ws end other =
     no_list (is_layout code ws end) rising_slots
-    (λ ks. and_right (all_fit (units_of code) ws ks) _ (and_right (are_rising ks) _ (and_right (has_none_before (stops_of code) ks) _ (not_at_end (stops_of code) ws ks end other))))
+    (λ ks. and_right (all_fit (units_of code) ws ks) _ (and_right (are_rising ks) _
+    (and_right (has_none_before (stops_of code) ks) _ (not_at_end (stops_of code) ws ks end other))))
 
 abbrev are_short : List (List ℕ) → Bool
 are_short [] = true
 are_short (ks ∷ lists) = ltb (length ks) 4 && are_short lists
 
-none_found : (p : List ℕ → Bool) (lists : List (List ℕ)) → ((ks : List ℕ) → length ks < 4 → p ks ≡ false) → are_short lists ≡ true → find p lists ≡ None
+none_found : (p : List ℕ → Bool) (lists : List (List ℕ)) → ((ks : List ℕ) → length ks < 4 → p ks ≡ false) → are_short lists ≡ true
+    → find p lists ≡ None
 none_found p [] h short = refl
 none_found p (ks ∷ lists) h short =
     let here : p ks ≡ false = h ks (ltb-true (length ks) 4 (left (ltb (length ks) 4) (are_short lists) short)) in
@@ -107,7 +116,8 @@ pub too_long : (w x y z : Wanted) (ws : List Wanted) (end : Bool) → laid_out (
 unfolding laid_out
 too_long w x y z ws end =
     none_below 32 (w ∷ x ∷ y ∷ z ∷ ws) end
-    (λ code. none_found (is_layout code (w ∷ x ∷ y ∷ z ∷ ws) end) rising_slots (λ ks short. unlike_layout code (w ∷ x ∷ y ∷ z ∷ ws) end ks (λ e. omega (arith, e, short))) refl)
+    (λ code. none_found (is_layout code (w ∷ x ∷ y ∷ z ∷ ws) end) rising_slots
+    (λ ks short. unlike_layout code (w ∷ x ∷ y ∷ z ∷ ws) end ks (λ e. omega (arith, e, short))) refl)
 
 -- The test of the stops of a template.
 pub stop_is_one_of : (code slot : ℕ) (b : Bool) → IsTrue b ↔ Contains (stops_of code) slot → b ≡ is_one_of slot (stops_of code)
@@ -128,7 +138,8 @@ one_more p (suc zero) less is = rw is (of (p 0))
     of false = refl
 one_more p (suc (suc zero)) less is = rw is (of (p 0) (p 1))
   where
-    of : (a b : Bool) → length {A = ℕ} (cond a (0 ∷ cond b (1 ∷ []) []) (cond b (1 ∷ []) [])) + 1 ≡ length {A = ℕ} (cond a (0 ∷ cond b (1 ∷ 2 ∷ []) (2 ∷ [])) (cond b (1 ∷ 2 ∷ []) (2 ∷ [])))
+    of : (a b : Bool) → length {A = ℕ} (cond a (0 ∷ cond b (1 ∷ []) []) (cond b (1 ∷ []) [])) + 1 ≡ length {A = ℕ}
+        (cond a (0 ∷ cond b (1 ∷ 2 ∷ []) (2 ∷ [])) (cond b (1 ∷ 2 ∷ []) (2 ∷ [])))
     of true true = refl
     of true false = refl
     of false true = refl
@@ -143,7 +154,8 @@ no_more p (suc (suc zero)) less is = rw is refl
 no_more p (suc (suc (suc slot))) less is = absurd (omega arith)
 
 -- A list that fails the test is passed by.
-passed_by : (p : List ℕ → Bool) (lists : List (List ℕ)) (n : ℕ) → false ≡ p (get_or lists n []) → find p (drop (suc n) lists) ≡ find p (drop n lists)
+passed_by : (p : List ℕ → Bool) (lists : List (List ℕ)) (n : ℕ) → false ≡ p (get_or lists n [])
+    → find p (drop (suc n) lists) ≡ find p (drop n lists)
 passed_by p [] zero fails = refl
 passed_by p [] (suc n) fails = refl
 passed_by p (l ∷ lists) zero fails = rw (sym fails) refl
@@ -173,7 +185,8 @@ found_below zero code ws end ks less none here = absurd (omega arith)
 found_below (suc bound) code ws end ks less none here =
     elim (last_or_below code bound less) as (λ _. first_below (suc bound) ws end ≡ Some (code, ks)) [
       | inl is ↦ else_found (first_below bound ws end) _ (code, ks) (subst (λ m. first_below m ws end ≡ None) is none)
-          (ap (option_map (λ ks. (bound, ks))) (subst (λ m. least_slots m ws end ≡ Some ks) is here) ∙ ap (λ (m : ℕ). Some (m, ks)) (sym is))
+          (ap (option_map (λ ks. (bound, ks))) (subst (λ m. least_slots m ws end ≡ Some ks) is here)
+          ∙ ap (λ (m : ℕ). Some (m, ks)) (sym is))
       | inr lower ↦ first_found (first_below bound ws end) _ (code, ks) (found_below bound code ws end ks lower none here)
     ]
 
@@ -181,7 +194,8 @@ pub found_out : (t code : ℕ) (ws : List Wanted) (end : Bool) (ks : List ℕ) �
     → Some ks ≡ least_slots t ws end → Some (t, ks) ≡ laid_out ws end
 unfolding laid_out
 found_out t code ws end ks is less none here =
-    ap (λ (m : ℕ). Some (m, ks)) is ∙ sym (found_below 32 code ws end ks less none (subst (λ m. least_slots m ws end ≡ Some ks) is (sym here)))
+    ap (λ (m : ℕ). Some (m, ks)) is ∙ sym (found_below 32 code ws end ks less none
+    (subst (λ m. least_slots m ws end ≡ Some ks) is (sym here)))
 
 pub none_out : (ws : List Wanted) (end : Bool) → first_below 32 ws end ≡ None → laid_out ws end ≡ None
 unfolding laid_out
@@ -191,7 +205,8 @@ pub none_below_0 : (ws : List Wanted) (end : Bool) → first_below 0 ws end ≡ 
 unfolding first_below
 none_below_0 ws end = refl
 
-pub still_none : (code : ℕ) (ws : List Wanted) (end : Bool) → first_below code ws end ≡ None → least_slots code ws end ≡ None → first_below (code + 1) ws end ≡ None
+pub still_none : (code : ℕ) (ws : List Wanted) (end : Bool) → first_below code ws end ≡ None → least_slots code ws end ≡ None
+    → first_below (code + 1) ws end ≡ None
 unfolding first_below
 still_none code ws end none here =
     rw (add-one code) (neither (first_below code ws end) _ none (ap (option_map (λ ks. (code, ks))) here))

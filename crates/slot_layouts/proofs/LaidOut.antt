@@ -92,15 +92,19 @@ after : {T : Type 0} (xs : List T) (n : ℕ) (x : T) → slice_get xs (n + 1) �
 after xs n x h = subst (λ m. slice_get xs m ≡ Some x) (add-one n) h
 
 -- The bundle holds the instructions in their order.
-inside_at : (code : ℕ) (ks : List ℕ) (is : List Insn) (n k : ℕ) → each_slot (λ k. nat_le k (last_place code)) ks ≡ true → slice_get ks n ≡ Some k → k ≤ last_place code
+inside_at : (code : ℕ) (ks : List ℕ) (is : List Insn) (n k : ℕ) → each_slot (λ k. nat_le k (last_place code)) ks ≡ true
+    → slice_get ks n ≡ Some k → k ≤ last_place code
 inside_at code ks is n k all at = leb-true k (last_place code) (slot_at (λ k. nat_le k (last_place code)) ks n k all at)
 
-pub holds_in_order : (ws : List Wanted) (end : Bool) (code : ℕ) (ks : List ℕ) (is : List Insn) → laid_out ws end ≡ Some (code, ks) → HoldsInOrder ws code ks is
+pub holds_in_order : (ws : List Wanted) (end : Bool) (code : ℕ) (ks : List ℕ) (is : List Insn) → laid_out ws end ≡ Some (code, ks)
+    → HoldsInOrder ws code ks is
 holds_in_order ws end code ks is laid = record {
   count = eqb-true (length ks) (length ws) known.count;
   rising = λ n k l at there. rising_at ks n k l known.rising at (after ks n l there);
   places = λ n k at. let put = put_in n k at in rw put.here refl;
-  holds = λ n k i at there. let put = put_in n k at in put.here ∙ ap (λ (i : Insn). Some i) (content-listed put.unit n k i ks is known.rising at there);
+  holds =
+      λ n k i at there. let put = put_in n k at in put.here ∙ ap (λ (i : Insn). Some i)
+      (content-listed put.unit n k i ks is known.rising at there);
   nops = nop_at;
 }
   where
@@ -124,12 +128,14 @@ not_both true true h is = absurd (cc)
 not_both true false h is = refl
 not_both false b h is = absurd (cc)
 
-no_stop : (code from before : ℕ) (ks : List ℕ) (is : List Insn) → no_stop_in code from before ≡ true → HasNoStop (filled code ks is) from before
+no_stop : (code from before : ℕ) (ks : List ℕ) (is : List Insn) → no_stop_in code from before ≡ true
+    → HasNoStop (filled code ks is) from before
 no_stop code from before ks is none slot above less =
     has_stop-filled code slot ks is
     ∙ not_both (nat_le from slot) (has_stop (blank code) slot) (below (is_no_stop code from) before slot none less) (le-leb from slot above)
 
-one_stop : (code from before : ℕ) (ks : List ℕ) (is : List Insn) → one_stop_in code from before ≡ true → HasOneStop (filled code ks is) from before
+one_stop : (code from before : ℕ) (ks : List ℕ) (is : List Insn) → one_stop_in code from before ≡ true
+    → HasOneStop (filled code ks is) from before
 one_stop code from before ks is one =
     let found = some_below (is_only_stop code from before) before one in
     let slot = found.0 in
@@ -142,11 +148,13 @@ one_stop code from before ks is one =
       here = has_stop-filled code slot ks is ∙ left (has_stop (blank code) slot) _ here;
       only = λ other above less stop. eqb-true other slot
           (entailed (nat_le from other && has_stop (blank code) other) (other == slot)
-          (below (λ other. not (nat_le from other && has_stop (blank code) other) || (other == slot)) before other (right (has_stop (blank code) slot) _ here) less)
+          (below (λ other. not (nat_le from other && has_stop (blank code) other) || (other == slot)) before other
+          (right (has_stop (blank code) slot) _ here) less)
           (both_true (le-leb from other above) (sym (has_stop-filled code other ks is) ∙ stop)));
     }
 
-stop_where : (gap : Bool) (code from before : ℕ) (ks : List ℕ) (is : List Insn) → stop_in_where gap code from before ≡ true → HasStopWhere gap (filled code ks is) from before
+stop_where : (gap : Bool) (code from before : ℕ) (ks : List ℕ) (is : List Insn) → stop_in_where gap code from before ≡ true
+    → HasStopWhere gap (filled code ks is) from before
 stop_where true code from before ks is h = one_stop code from before ks is h
 stop_where false code from before ks is h = no_stop code from before ks is h
 
@@ -161,7 +169,9 @@ has_stops_as_wanted ws end code ks is laid = record {
   between = between;
   before = λ k at. no_stop code 0 k ks is (left _ _ (first_at (first_holds code) ws ks k known.first count at).holds);
   behind = behind;
-  last = ap (has_stop (filled code ks is)) (last_slot-filled code ks is) ∙ has_stop-filled code (last_place code) ks is ∙ as_wanted end (has_stop (blank code) (last_place code)) known.stop;
+  last =
+      ap (has_stop (filled code ks is)) (last_slot-filled code ks is) ∙ has_stop-filled code (last_place code) ks is
+      ∙ as_wanted end (has_stop (blank code) (last_place code)) known.stop;
 }
   where
     known : AreFacts ws end code ks
@@ -170,7 +180,8 @@ has_stops_as_wanted ws end code ks is laid = record {
     count : length ks ≡ length ws
     count = eqb-true (length ks) (length ws) known.count
 
-    between : (n k l : ℕ) (x : Wanted) → slice_get ks n ≡ Some k → slice_get ks (n + 1) ≡ Some l → slice_get ws (n + 1) ≡ Some x → HasStopWhere x.gap (filled code ks is) k l
+    between : (n k l : ℕ) (x : Wanted) → slice_get ks n ≡ Some k → slice_get ks (n + 1) ≡ Some l → slice_get ws (n + 1) ≡ Some x
+        → HasStopWhere x.gap (filled code ks is) k l
     between n k l x at next wanted =
         let pair = pair_at (pair_holds code) ws ks n x l known.pairs (after ws n x wanted) (after ks n l next) in
         let same : pair.k ≡ k = same_Some pair.k k (sym pair.slot ∙ at) in
@@ -179,7 +190,8 @@ has_stops_as_wanted ws end code ks is laid = record {
     behind : (n k : ℕ) → slice_get ks n ≡ Some k → n + 1 ≡ length ks → HasNoStop (filled code ks is) k (last_slot (filled code ks is).slots)
     behind n k at end =
         let one = last_at (last_holds code) ws ks n k known.last count at end in
-        subst (λ m. HasNoStop (filled code ks is) k m) (sym (last_slot-filled code ks is)) (no_stop code k (last_place code) ks is (left _ _ one.holds))
+        subst (λ m. HasNoStop (filled code ks is) k m) (sym (last_slot-filled code ks is))
+        (no_stop code k (last_place code) ks is (left _ _ one.holds))
 
 -- What stands beside.
 m_or_a : (w : Wanted) → (w.class ≡ M) ⊎ (w.class ≡ A) → is_m_or_a w.class ≡ true
@@ -201,11 +213,13 @@ first_in_slot_0 w ws end code ks laid is = of ks known.first count
     of (k ∷ ks) first few =
         ap (λ (k : ℕ). Some k) (eqb-true k 0 (entailed (is_m_or_a w.class) (k == 0) (right (no_stop_in code 0 k) _ first) (m_or_a w is)))
 
-right_before : (code l : ℕ) (ks : List ℕ) (is : List Insn) → stop_right_before code l ≡ true → (before : ℕ) × (before + 1 ≡ l) × (has_stop (filled code ks is) before ≡ true)
+right_before : (code l : ℕ) (ks : List ℕ) (is : List Insn) → stop_right_before code l ≡ true
+    → (before : ℕ) × (before + 1 ≡ l) × (has_stop (filled code ks is) before ≡ true)
 right_before code zero ks is h = absurd (cc)
 right_before code (suc slot) ks is h = (slot, add-one slot, has_stop-filled code slot ks is ∙ h)
 
-pub stop_right_before_m : (ws : List Wanted) (end : Bool) (code : ℕ) (ks : List ℕ) (is : List Insn) (n l : ℕ) (x : Wanted) → laid_out ws end ≡ Some (code, ks)
+pub stop_right_before_m : (ws : List Wanted) (end : Bool) (code : ℕ) (ks : List ℕ) (is : List Insn) (n l : ℕ) (x : Wanted)
+    → laid_out ws end ≡ Some (code, ks)
     → slice_get ws (n + 1) ≡ Some x → x.class ≡ M → x.gap ≡ true → slice_get ks (n + 1) ≡ Some l
     → (before : ℕ) × (before + 1 ≡ l) × (has_stop (filled code ks is) before ≡ true)
 stop_right_before_m ws end code ks is n l x laid at m gap there =
@@ -214,7 +228,8 @@ stop_right_before_m ws end code ks is n l x laid at m gap there =
     let rule = left (not (is_m x.class && x.gap) || stop_right_before code l) _ (right (stop_in_where x.gap code pair.k l) _ pair.holds) in
     right_before code l ks is (entailed (is_m x.class && x.gap) (stop_right_before code l) rule (both_true (ap is_m m) gap))
 
-pub last_b_last : (ws : List Wanted) (end : Bool) (code : ℕ) (ks : List ℕ) (is : List Insn) (n k : ℕ) (w : Wanted) → laid_out ws end ≡ Some (code, ks)
+pub last_b_last : (ws : List Wanted) (end : Bool) (code : ℕ) (ks : List ℕ) (is : List Insn) (n k : ℕ) (w : Wanted)
+    → laid_out ws end ≡ Some (code, ks)
     → slice_get ws n ≡ Some w → w.class ≡ B → n + 1 ≡ length ws → slice_get ks n ≡ Some k → k ≡ last_slot (filled code ks is).slots
 last_b_last ws end code ks is n k w laid at b last there =
     let known = facts_at ws end code ks laid in
@@ -222,10 +237,12 @@ last_b_last ws end code ks is n k w laid at b last there =
     let one = last_at (last_holds code) ws ks n k known.last count there (last ∙ sym count) in
     let same : w ≡ one.w = same_Some w one.w (sym at ∙ one.wanted) in
     let rule = right (no_stop_in code k (last_place code)) _ one.holds in
-    eqb-true k (last_place code) (entailed (is_b one.w.class) (k == last_place code) rule (subst (λ w. is_b w.class ≡ true) same (ap is_b b)))
+    eqb-true k (last_place code) (entailed (is_b one.w.class) (k == last_place code) rule
+    (subst (λ w. is_b w.class ≡ true) same (ap is_b b)))
     ∙ sym (last_slot-filled code ks is)
 
-pub next_right_behind_b : (ws : List Wanted) (end : Bool) (code : ℕ) (ks : List ℕ) (n k l : ℕ) (w x : Wanted) → laid_out ws end ≡ Some (code, ks)
+pub next_right_behind_b : (ws : List Wanted) (end : Bool) (code : ℕ) (ks : List ℕ) (n k l : ℕ) (w x : Wanted)
+    → laid_out ws end ≡ Some (code, ks)
     → slice_get ws n ≡ Some w → w.class ≡ B → slice_get ws (n + 1) ≡ Some x → slice_get ks n ≡ Some k → slice_get ks (n + 1) ≡ Some l
     → (l ≡ k + 1) × (x.gap ≡ false)
 next_right_behind_b ws end code ks n k l w x laid at b next there beyond =

@@ -66,7 +66,8 @@ pub record HoldsUpToThree (t : List Wanted → Bool) : Type 0 where
   pub three : (g : Bool) → each_three t g ≡ true
 
 -- Where it holds of the longer ones too, it holds of each list.
-pub for_every : (t : List Wanted → Bool) → HoldsUpToThree t → ((w x y z : Wanted) (ws : List Wanted) → t (w ∷ x ∷ y ∷ z ∷ ws) ≡ true) → (ws : List Wanted) → t ws ≡ true
+pub for_every : (t : List Wanted → Bool) → HoldsUpToThree t → ((w x y z : Wanted) (ws : List Wanted) → t (w ∷ x ∷ y ∷ z ∷ ws) ≡ true)
+    → (ws : List Wanted) → t ws ≡ true
 for_every t holds more [] = holds.none
 for_every t holds more (w ∷ []) = at_class (λ a. t (wanted a w.gap ∷ [])) (holds.one w.gap) w.class
 for_every t holds more (w ∷ x ∷ []) =

@@ -39,7 +39,11 @@ pub in_range : (p : Program) (place : Place) (insn : Insn) → IsProgram p → i
 in_range p place insn program here =
     let inside = bundle_small p.bundles place (subst IsSome (sym here) refl) in
     let most = program.counts.bundles in
-    record { bundle = omega (arith, inside, most); ranges = action_ranges insn.op (ranges_of_listed insn (listed_at p place insn program here)) }
+    record {
+      bundle = omega (arith, inside, most);
+      ranges = action_ranges insn.op
+          (ranges_of_listed insn (listed_at p place insn program here));
+    }
 
 -- A slot at a place is that of the instruction there.
 pub slot_is : (bundles : List Bundle) (place : Place) (slot : Slot) → slot_at bundles place ≡ Some slot → IsSlotOf bundles place slot
@@ -68,18 +72,22 @@ no_slot bundles place none = of (insn_at bundles place) refl
     of None here = refl
     of (Some insn) here = absurd (none (rw here refl))
 
-edge_of-slot : (bundles : List Bundle) (place : Place) (insn : Insn) (e : Edge) → edge_from (slot_of bundles place insn) e ≡ edge_of bundles place (Some insn) e
+edge_of-slot : (bundles : List Bundle) (place : Place) (insn : Insn) (e : Edge)
+    → edge_from (slot_of bundles place insn) e ≡ edge_of bundles place (Some insn) e
 edge_of-slot bundles place insn Falls = refl
 edge_of-slot bundles place insn Taken = refl
 
 -- The edges of a slot are those of the program.
-pub slot_edges : (p : Program) (from : Place) (slot : Slot) (e : Edge) (r : Option Place) → IsProgram p → slot_at p.bundles from ≡ Some slot → r ≡ edge_from slot e → MatchOption r ((to : Place) → HasEdge p from e to → ⊥) (λ to. HasEdge p from e to)
+pub slot_edges : (p : Program) (from : Place) (slot : Slot) (e : Edge) (r : Option Place) → IsProgram p → slot_at p.bundles from ≡ Some slot
+    → r ≡ edge_from slot e → MatchOption r ((to : Place) → HasEdge p from e to → ⊥) (λ to. HasEdge p from e to)
 slot_edges p from slot e r program at leads =
     let s = slot_is p.bundles from slot at in
-    is_edge_end p from s.insn e r program s.here (leads ∙ ap (λ (q : Slot). edge_from q e) (sym s.is) ∙ edge_of-slot p.bundles from s.insn e)
+    is_edge_end p from s.insn e r program s.here (leads ∙ ap (λ (q : Slot). edge_from q e) (sym s.is)
+    ∙ edge_of-slot p.bundles from s.insn e)
 
 -- What is known past a slot is what is known past its place.
-pub pairs_by-slot : (p : Program) (from : Place) (slot : Slot) (e : Edge) (f : Pairs) → slot_at p.bundles from ≡ Some slot → pairs_by f (action_rule slot.action e slot.qp) ≡ pairs_past p from e f
+pub pairs_by-slot : (p : Program) (from : Place) (slot : Slot) (e : Edge) (f : Pairs) → slot_at p.bundles from ≡ Some slot
+    → pairs_by f (action_rule slot.action e slot.qp) ≡ pairs_past p from e f
 unfolding pairs_past pairs_after rule_of
 pairs_by-slot p from slot e f at =
     let s = slot_is p.bundles from slot at in
@@ -90,7 +98,9 @@ pub no_slot_above : (bundles : List Bundle) (place : Place) → 2 < place.slot �
 no_slot_above bundles place above = sym (no_slot bundles place (λ is. let small = slot_small bundles place is in omega arith))
 
 -- A list of the slots of all places, in order, has the slot of each.
-pub filled : (bundles : List Bundle) (slots : List (Option Slot)) → length slots ≡ 3 * length bundles → ((n : ℕ) → n < length slots → get_or slots n None ≡ slot_at bundles (place_at n)) → (n : ℕ) → get_or slots n None ≡ slot_at bundles (place_at n)
+pub filled : (bundles : List Bundle) (slots : List (Option Slot)) → length slots ≡ 3 * length bundles
+    → ((n : ℕ) → n < length slots → get_or slots n None ≡ slot_at bundles (place_at n)) → (n : ℕ)
+    → get_or slots n None ≡ slot_at bundles (place_at n)
 filled bundles slots size each n = by_end (cases_lt n (length slots))
   where
     by_end : (n < length slots) ⊎ (length slots ≤ n) → get_or slots n None ≡ slot_at bundles (place_at n)

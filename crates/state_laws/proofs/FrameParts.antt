@@ -17,15 +17,18 @@ unfolding has_zero_bases
 zero_general f h = grind (arith, nat_tests)
 
 -- That of an `alloc`.
-pub sized_frame : (f : FrameShape) (sof sol sor : ℕ) → IsFrame f → sof ≤ 96 → sol ≤ sof → 8 * sor ≤ sof → (f.sor ≡ sor) ⊎ (has_zero_bases f ≡ true) → IsFrame (with_sizes f sof sol sor)
-sized_frame f sof sol sor h a b c same = record { size = a; locals = b; rotating = c; general = of same; floating = h.floating; predicates = h.predicates }
+pub sized_frame : (f : FrameShape) (sof sol sor : ℕ) → IsFrame f → sof ≤ 96 → sol ≤ sof → 8 * sor ≤ sof
+    → (f.sor ≡ sor) ⊎ (has_zero_bases f ≡ true) → IsFrame (with_sizes f sof sol sor)
+sized_frame f sof sol sor h a b c same =
+    record { size = a; locals = b; rotating = c; general = of same; floating = h.floating; predicates = h.predicates }
   where
     of : (f.sor ≡ sor) ⊎ (has_zero_bases f ≡ true) → (f.rrbs.gr < 8 * sor) ⊎ (f.rrbs.gr ≡ 0)
     of (inl e) = subst (λ (k : ℕ). (f.rrbs.gr < 8 * k) ⊎ (f.rrbs.gr ≡ 0)) e h.general
     of (inr z) = inr (zero_general f z)
 
 -- That of a rotation.
-rotated_base : (sor gr : ℕ) (b : Bool) → (sor == 0) ≡ b → ((if b then 0 else (gr + 8 * sor - 1) % (8 * sor)) < 8 * sor) ⊎ ((if b then 0 else (gr + 8 * sor - 1) % (8 * sor)) ≡ 0)
+rotated_base : (sor gr : ℕ) (b : Bool) → (sor == 0) ≡ b → ((if b then 0 else (gr + 8 * sor - 1) % (8 * sor)) < 8 * sor)
+    ⊎ ((if b then 0 else (gr + 8 * sor - 1) % (8 * sor)) ≡ 0)
 rotated_base sor gr true e = inr refl
 rotated_base sor gr false e = let some : 0 < sor = grind (arith, nat_tests) in inl (mod_below (gr + 8 * sor - 1) (8 * sor) (omega arith))
 
@@ -34,20 +37,51 @@ unfolding rotated
 rotated_within f (h, within) =
     let general = rotated_base f.sor f.rrbs.gr (f.sor == 0) refl in
     let floating = mod_below (f.rrbs.fr + 95) 96 (omega arith) in
-    let predicates = mod_below (f.rrbs.pr + 47) 48 (omega arith) in
-    (record { size = h.size; locals = h.locals; rotating = h.rotating; general = general; floating = floating; predicates = predicates }, within)
+    let predicates = mod_below (f.rrbs.pr + 47) 48 (omega arith) in (
+      record { size = h.size; locals = h.locals; rotating = h.rotating; general = general; floating = floating; predicates = predicates },
+      within,
+    )
 
 -- That of `clrrrb`.
 pub cleared_within : (pred_only : Bool) (f : FrameShape) → IsFrameWithin f → IsFrameWithin (cleared pred_only f)
-cleared_within true f (h, within) = (record { size = h.size; locals = h.locals; rotating = h.rotating; general = h.general; floating = h.floating; predicates = omega arith }, within)
-cleared_within false f (h, within) = (record { size = h.size; locals = h.locals; rotating = h.rotating; general = inr refl; floating = omega arith; predicates = omega arith }, within)
+cleared_within true f (h, within) = (
+  record {
+    size = h.size;
+    locals = h.locals;
+    rotating = h.rotating;
+    general = h.general;
+    floating = h.floating;
+    predicates = omega arith;
+  },
+  within,
+)
+cleared_within false f (h, within) = (
+  record {
+    size = h.size;
+    locals = h.locals;
+    rotating = h.rotating;
+    general = inr refl;
+    floating = omega arith;
+    predicates = omega arith;
+  },
+  within,
+)
 
 -- That of a call.
 pub called_within : (f : FrameShape) → IsFrameWithin f → IsFrameWithin (call_frame f)
 called_within f (h, within) =
     let size = h.size in
-    let locals = h.locals in
-    (record { size = omega arith; locals = omega arith; rotating = omega arith; general = inr refl; floating = omega arith; predicates = omega arith }, omega arith)
+    let locals = h.locals in (
+      record {
+        size = omega arith;
+        locals = omega arith;
+        rotating = omega arith;
+        general = inr refl;
+        floating = omega arith;
+        predicates = omega arith;
+      },
+      omega arith,
+    )
 
 -- That of a return.
 pub returned_within : (base pfs : ℕ) → return_fault base (marked_frame base pfs) ≡ None → IsFrameWithin (returned_frame base pfs)
@@ -75,4 +109,5 @@ frame_marker_small f h =
 
 pub call_state_in_range : (f : FrameShape) (ec : ℕ) → IsFrame f → ec < 64 → IsWord (call_state f ec) × HasReservedZeros (call_state f ec)
 unfolding call_state frame_marker
-call_state_in_range f ec h k = let m = frame_marker_small f h in (state_word (frame_marker f) ec m k, state_reserved (frame_marker f) ec m k)
+call_state_in_range f ec h k =
+    let m = frame_marker_small f h in (state_word (frame_marker f) ec m k, state_reserved (frame_marker f) ec m k)

@@ -36,7 +36,8 @@ put_keeps (SetStatic zero c) r fits h = absurd (fits.0 refl)
 put_keeps (SetStatic (suc n) c) r fits h =
     let count : length (set r.statics (suc n) c) ≡ 32 = length-set r.statics (suc n) c ∙ h.static_count in
     let words : AreCells (set r.statics (suc n) c) = All-set (λ c. IsWord c.value) r.statics (suc n) c fits.1 h.statics in
-    let zero : get_or (set r.statics (suc n) c) 0 zero_cell ≡ zero_cell = get_or-set_other r.statics (suc n) 0 c zero_cell (λ e. absurd (omega arith)) ∙ h.zero in
+    let zero : get_or (set r.statics (suc n) c) 0 zero_cell ≡ zero_cell =
+    get_or-set_other r.statics (suc n) 0 c zero_cell (λ e. absurd (omega arith)) ∙ h.zero in
     assumption (count, words, zero, h)
 put_keeps (SetCell n c) r fits h =
     let same : length (set r.cells n c) ≡ length r.cells = length-set r.cells n c in
@@ -77,7 +78,8 @@ spot_in_range (Static zero) c ws h rest = rest
 spot_in_range (Static (suc n)) c ws h rest = (((λ e. absurd (omega arith)), h), rest)
 spot_in_range (Stacked n) c ws h rest = (h, rest)
 
-pub predicate_in_range : (f : FrameShape) (p : ℕ) (b : Bool) (ws : List Write) → Each IsInRange ws → Each IsInRange (set_predicate (predicate_spot f p) b ws)
+pub predicate_in_range : (f : FrameShape) (p : ℕ) (b : Bool) (ws : List Write) → Each IsInRange ws
+    → Each IsInRange (set_predicate (predicate_spot f p) b ws)
 unfolding predicate_spot
 predicate_in_range f zero b ws rest = rest
 predicate_in_range f (suc p) b ws rest = (place_some f (suc p) (λ e. absurd (omega arith)), rest)

@@ -44,8 +44,10 @@ filtered_entries count p es h = record {
 pub invalidated_entries : (count : ℕ) (es : List AlatEntry) (d : Spot) → AreEntries count es → AreEntries count (invalidated es d)
 invalidated_entries count es d h = rw (invalidated_is_filter es d) (filtered_entries count (λ e. not (is_spot e.key d)) es h)
 
-pub untouched_entries : (count : ℕ) (es : List AlatEntry) (address size : ℕ) → AreEntries count es → AreEntries count (untouched es address size)
-untouched_entries count es address size h = rw (untouched_is_filter es address size) (filtered_entries count (λ e. is_apart e address size) es h)
+pub untouched_entries : (count : ℕ) (es : List AlatEntry) (address size : ℕ) → AreEntries count es
+    → AreEntries count (untouched es address size)
+untouched_entries count es address size h =
+    rw (untouched_is_filter es address size) (filtered_entries count (λ e. is_apart e address size) es h)
 
 spot_itself : (d e : Spot) → d ≡ e → is_spot d e ≡ true
 spot_itself (Static n) (Static k) h = let e : n ≡ k = cc in grind (arith, nat_tests)
@@ -61,7 +63,9 @@ other_key : (d : Spot) (e : AlatEntry) → not (is_spot e.key d) ≡ true → Ha
 other_key d e h same = let s = spot_itself e.key d same in absurd (cc)
 
 each_other : (d : Spot) (es : List AlatEntry) → All (HasOther d) (invalidated es d)
-each_other d es = rw (invalidated_is_filter es d) (λ k x h. other_key d (get_or (filter (λ e. not (is_spot e.key d)) es) k x) (filter_passes (λ e. not (is_spot e.key d)) es k x h))
+each_other d es =
+    rw (invalidated_is_filter es d) (λ k x h. other_key d (get_or (filter (λ e. not (is_spot e.key d)) es) k x)
+    (filter_passes (λ e. not (is_spot e.key d)) es k x h))
 
 dropped_pairs : {X : Type 0} (R : X → X → Type 0) (n : ℕ) (xs : List X) → AllPairs R xs → AllPairs R (drop n xs)
 dropped_pairs R n xs h i j d below within =
@@ -70,7 +74,8 @@ dropped_pairs R n xs h i j d below within =
     let b = get_or-drop n xs j d in
     rw (a, b) (h (n + i) (n + j) d (omega arith) (omega arith))
 
-pub entered_entries : (count : ℕ) (es : List AlatEntry) (e : AlatEntry) → IsAlatEntry count e → AreEntries count es → AreEntries count (entered es e)
+pub entered_entries : (count : ℕ) (es : List AlatEntry) (e : AlatEntry) → IsAlatEntry count e → AreEntries count es
+    → AreEntries count (entered es e)
 unfolding entered
 entered_entries count es e is h =
     let f = invalidated_entries count es e.key h in
@@ -81,15 +86,20 @@ entered_entries count es e is h =
     let m = f.most in
     record {
       most = omega arith;
-      entries = All-append (IsAlatEntry count) (drop n left) (e ∷ []) (All-drop (IsAlatEntry count) n left f.entries) (All-cons (IsAlatEntry count) e [] is (All-nil (IsAlatEntry count)));
-      apart = all_pairs_push (λ d e. d.key ≢ e.key) (drop n left) e (dropped_pairs (λ d e. d.key ≢ e.key) n left f.apart) (λ k d i. All-drop (HasOther e.key) n left (each_other e.key es) k d i);
+      entries =
+          All-append (IsAlatEntry count) (drop n left) (e ∷ []) (All-drop (IsAlatEntry count) n left f.entries)
+          (All-cons (IsAlatEntry count) e [] is (All-nil (IsAlatEntry count)));
+      apart =
+          all_pairs_push (λ d e. d.key ≢ e.key) (drop n left) e (dropped_pairs (λ d e. d.key ≢ e.key) n left f.apart)
+          (λ k d i. All-drop (HasOther e.key) n left (each_other e.key es) k d i);
     }
 
 -- The entries and the bytes as a memory.
 pub entries_of : (p : Program) (m : Memory) → IsMemory p m → AreEntries (length m.bytes) m.alat
 entries_of p m h = record { most = h.most; entries = h.entries; apart = h.apart }
 
-pub with_entries : (p : Program) (m : Memory) (es : List AlatEntry) → IsMemory p m → AreEntries (length m.bytes) es → IsMemory p (record m { alat = es })
+pub with_entries : (p : Program) (m : Memory) (es : List AlatEntry) → IsMemory p m → AreEntries (length m.bytes) es
+    → IsMemory p (record m { alat = es })
 with_entries p m es h e = record { count = h.count; bytes = h.bytes; most = e.most; entries = e.entries; apart = e.apart }
 
 -- What is stored are bytes.
@@ -106,17 +116,28 @@ bytes_set bytes at x h small i = by_place (cases_eq i at) (cases_lt i (length by
 
 bytes_with : (n at x : ℕ) (bytes : List ℕ) → AreBytes bytes → AreBytes (with_bytes bytes at n x)
 bytes_with zero at x bytes h = h
-bytes_with (suc n) at x bytes h = bytes_with n (suc at) (x / 256) (set bytes at (x % 256)) (bytes_set bytes at (x % 256) h (mod_below x 256 (omega arith)))
+bytes_with (suc n) at x bytes h =
+    bytes_with n (suc at) (x / 256) (set bytes at (x % 256)) (bytes_set bytes at (x % 256) h (mod_below x 256 (omega arith)))
 
-pub stored_memory : (p : Program) (m : Memory) (address size x : ℕ) → IsMemory p m → IsMemory p (record { bytes = stored m.bytes address size x; alat = untouched m.alat address size })
+pub stored_memory : (p : Program) (m : Memory) (address size x : ℕ) → IsMemory p m
+    → IsMemory p (record { bytes = stored m.bytes address size x; alat = untouched m.alat address size })
 unfolding stored
 stored_memory p m address size x h =
     let same : length (stored m.bytes address size x) ≡ length m.bytes = length-with_bytes size (address - data_base) x m.bytes in
-    let e = subst (λ (n : ℕ). AreEntries n (untouched m.alat address size)) (sym same) (untouched_entries (length m.bytes) m.alat address size (entries_of p m h)) in
-    record { count = same ∙ h.count; bytes = bytes_with size (address - data_base) x m.bytes h.bytes; most = e.most; entries = e.entries; apart = e.apart }
+    let e =
+    subst (λ (n : ℕ). AreEntries n (untouched m.alat address size)) (sym same)
+    (untouched_entries (length m.bytes) m.alat address size (entries_of p m h)) in
+    record {
+      count = same ∙ h.count;
+      bytes = bytes_with size (address - data_base) x m.bytes h.bytes;
+      most = e.most;
+      entries = e.entries;
+      apart = e.apart;
+    }
 
 -- What a load leaves of the entries.
-pub load_entries : (count : ℕ) (kind : LoadKind) (e : AlatEntry) (es : List AlatEntry) → IsAlatEntry count e → AreEntries count es → AreEntries count (load_alat kind e es)
+pub load_entries : (count : ℕ) (kind : LoadKind) (e : AlatEntry) (es : List AlatEntry) → IsAlatEntry count e → AreEntries count es
+    → AreEntries count (load_alat kind e es)
 load_entries count load.A e es is h = entered_entries count es e is h
 load_entries count load.Sa e es is h = entered_entries count es e is h
 load_entries count load.CNc e es is h = entered_entries count es e is h

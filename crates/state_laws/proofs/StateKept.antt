@@ -71,7 +71,8 @@ record IsOutcomeInRange (p : Program) (o : Outcome) : Type 0 where
   spills : IfSome o.spills (λ b. b.0 < 64)
 
 -- What tests and moves write.
-test_in_range : (f : FrameShape) (kind : CmpKind) (p q : ℕ) (x : Option Bool) → Each IsInRange (test_writes kind (predicate_spot f p) (predicate_spot f q) x)
+test_in_range : (f : FrameShape) (kind : CmpKind) (p q : ℕ) (x : Option Bool)
+    → Each IsInRange (test_writes kind (predicate_spot f p) (predicate_spot f q) x)
 test_in_range f Normal p q (Some b) = predicate_in_range f p _ _ (predicate_in_range f q _ [] tt)
 test_in_range f Normal p q None = predicate_in_range f p _ _ (predicate_in_range f q _ [] tt)
 test_in_range f Unc p q (Some b) = predicate_in_range f p _ _ (predicate_in_range f q _ [] tt)
@@ -144,7 +145,8 @@ reserved_zeros : (x : ℕ) → has_reserved_zeros x ≡ true → HasReservedZero
 unfolding has_reserved_zeros
 reserved_zeros x h = search rules
 
-module _ (p : Program) (s : Site) (r : Registers) (m : Memory) (unat : ℕ) (below : s.bundle < 2 ^ 31) (h : AreRegisters r) (mem : IsMemory p m) where
+module _ (p : Program) (s : Site) (r : Registers) (m : Memory) (unat : ℕ) (below : s.bundle < 2 ^ 31) (h : AreRegisters r)
+    (mem : IsMemory p m) where
   -- Outcomes that leave the memory, or change its entries.
   fell : (ws : List Write) → Each IsInRange ws → IsOutcomeInRange p (falls ws m)
   fell ws w = record { writes = w; memory = mem; spills = tt }
@@ -158,7 +160,8 @@ module _ (p : Program) (s : Site) (r : Registers) (m : Memory) (unat : ℕ) (bel
   entries : AreEntries (length m.bytes) m.alat
   entries = entries_of p m mem
 
-  fell_with : (ws : List Write) (es : List AlatEntry) → Each IsInRange ws → AreEntries (length m.bytes) es → IsOutcomeInRange p (falls ws (record m { alat = es }))
+  fell_with : (ws : List Write) (es : List AlatEntry) → Each IsInRange ws → AreEntries (length m.bytes) es
+      → IsOutcomeInRange p (falls ws (record m { alat = es }))
   fell_with ws es w e = record { writes = w; memory = with_entries p m es mem e; spills = tt }
 
   may_invalidate : (d : Spot) (es : List AlatEntry) → MayInvalidate m.alat d es → AreEntries (length m.bytes) es
@@ -174,7 +177,8 @@ module _ (p : Program) (s : Site) (r : Registers) (m : Memory) (unat : ℕ) (bel
   application_in_range ar.Lc x w = fell _ (w, tt)
   application_in_range ar.Ec x w = fell _ (mod_below x 64 (omega arith), tt)
 
-  load_in_range : (size : ℕ) (kind : LoadKind) (r1 : ℕ) (u : Update) (d e : Spot) (base more : Cell) → r1 ≢ 0 → IsAccessSize size → spot r.frame r1 ≡ Some d
+  load_in_range : (size : ℕ) (kind : LoadKind) (r1 : ℕ) (u : Update) (d e : Spot) (base more : Cell) → r1 ≢ 0 → IsAccessSize size
+      → spot r.frame r1 ≡ Some d
       → LoadCases (IsOutcomeInRange p) kind base (record { key = d; address = base.value; size = size }) m unat (base_writes u e base more)
   load_in_range size kind r1 u d e base more some is at =
       let entry : AlatEntry = record { key = d; address = base.value; size = size } in
@@ -182,8 +186,10 @@ module _ (p : Program) (s : Site) (r : Registers) (m : Memory) (unat : ℕ) (bel
       record {
         loads = λ n i.
             let a = is_access m.bytes base.value size i in
-            let good : IsAlatEntry (length m.bytes) entry = record { key = key; size = is; aligned = a.aligned; above = a.above; within = a.within } in
-            fell_with _ (load_alat kind entry m.alat) (spot_in_range d _ _ (loaded_word m.bytes base.value size mem.bytes is) (base_in_range u e base more))
+            let good : IsAlatEntry (length m.bytes) entry =
+            record { key = key; size = is; aligned = a.aligned; above = a.above; within = a.within } in
+            fell_with _ (load_alat kind entry m.alat) (spot_in_range d _ _ (loaded_word m.bytes base.value size mem.bytes is)
+            (base_in_range u e base more))
             (load_entries (length m.bytes) kind entry m.alat good entries);
         defers = λ n es f. fell_with _ es (spot_in_range d _ _ (omega arith) (base_in_range u e base more)) (may_invalidate d es f);
         hits = λ n c i es f. fell_with _ es (base_in_range u e base more) (may_invalidate d es f);
@@ -196,35 +202,60 @@ module _ (p : Program) (s : Site) (r : Registers) (m : Memory) (unat : ℕ) (bel
   turned_in_range kind qp = turn_in_range (turn_of kind qp r.lc r.ec) r.frame (turn_counts kind qp r.lc r.ec h.lc h.ec) frame
 
   act_in_range : (action : Action) → HasActionWords action → ActCases (IsOutcomeInRange p) s action r m unat
-  act_in_range (Compute r1 r2 r3 f) l = (failed, λ d a b i j k. fell _ (spot_in_range d _ [] (l a.value b.value (look_word r h r2 a j) (look_word r h r3 b k)) tt))
+  act_in_range (Compute r1 r2 r3 f) l =
+      (failed, λ d a b i j k. fell _ (spot_in_range d _ [] (l a.value b.value (look_word r h r2 a j) (look_word r h r3 b k)) tt))
   act_in_range (Fetch r1 source) l = (failed, λ d i. fell _ (spot_in_range d _ [] (source_word s.bundle r source below h) tt))
   act_in_range (Test kind p1 p2 r2 r3 c) l = (failed, λ a b i j. fell _ (test_in_range r.frame kind p1 p2 (result_of c a b)))
   act_in_range (ToPredicates r2 mask w) l = (failed, λ a i n. fell _ (moved_in_range mask (moved w a.value)))
   act_in_range (ToBranch b1 r2) l = (failed, λ a i n. fell _ (look_word r h r2 a i, tt))
   act_in_range (ToApplication a r2 w) l = (failed, λ c i n. application_in_range a (moved w c.value) (l c.value (look_word r h r2 c i)))
   act_in_range (FromMemory size kind r1 r3 u) l = (failed, λ d e base more i j k n. load_in_range size kind r1 u d e base more l.0 l.1 i)
-  act_in_range (ToMemory size kind r3 r2 u) l =
-      (failed, λ e base x i j k n t a. record { writes = base_in_range u e base zero_cell; memory = stored_memory p m base.value size x.value mem; spills = spills_in_range kind base.value x })
-  act_in_range (Exchange size r1 r3 r2 inc) l =
-      (failed, λ d base x i j k n t a. record { writes = spot_in_range d _ [] (loaded_word m.bytes base.value size mem.bytes l) tt; memory = stored_memory p m base.value size _ mem; spills = tt })
+  act_in_range (ToMemory size kind r3 r2 u) l = (
+    failed,
+    λ e base x i j k n t a. record {
+      writes = base_in_range u e base zero_cell;
+      memory = stored_memory p m base.value size x.value mem;
+      spills = spills_in_range kind base.value x;
+    },
+  )
+  act_in_range (Exchange size r1 r3 r2 inc) l = (
+    failed,
+    λ d base x i j k n t a. record {
+      writes = spot_in_range d _ [] (loaded_word m.bytes base.value size mem.bytes l) tt;
+      memory = stored_memory p m base.value size _ mem;
+      spills = tt;
+    },
+  )
   act_in_range (CheckNat r2 disp) l = (failed, λ a i n. went [] _ tt, λ a i n. fell [] tt)
   act_in_range (CheckAlat clear r1 disp) l = (failed, λ d i n. went [] _ tt, λ d i n es f. fell_with [] es tt (may_invalidate d es f))
-  act_in_range InvalidateAll l = fell_with [] [] tt (record { most = omega arith; entries = All-nil (IsAlatEntry (length m.bytes)); apart = λ i j d below within. absurd (omega arith) })
+  act_in_range InvalidateAll l =
+      fell_with [] [] tt (record {
+        most = omega arith;
+        entries = All-nil (IsAlatEntry (length m.bytes));
+        apart = λ i j d below within. absurd (omega arith);
+      })
   act_in_range (Invalidate r1) l = (failed, λ d i. fell_with [] _ tt (invalidated_entries (length m.bytes) m.alat d entries))
-  act_in_range (Allocate r1 sof sol sor) l =
-      (failed, λ d i same within. fell _ ((sized_frame r.frame sof sol sor h.frame l.0 l.1 l.2 same, within), spot_in_range d _ [] h.pfs tt))
+  act_in_range (Allocate r1 sof sol sor) l = (
+    failed,
+    λ d i same within. fell _ (
+      (sized_frame r.frame sof sol sor h.frame l.0 l.1 l.2 same, within),
+      spot_in_range d _ [] h.pfs tt,
+    ),
+  )
   act_in_range (Jump disp) l = went [] _ tt
   act_in_range (JumpIndirect b2) l = (failed, λ to e. went [] to tt)
   act_in_range (Loop kind disp) l = (λ t. went _ _ (turned_in_range kind true), λ t. fell _ (turned_in_range kind true))
   act_in_range (Call b1 (Direct disp)) l = went _ _ (call_in_range b1)
   act_in_range (Call b1 (Indirect b2)) l = (failed, λ to e. went _ to (call_in_range b1))
-  act_in_range (Return b2) l = (failed, λ to i e. went _ to (returned_within r.frame.base r.pfs i, (mod_below (r.pfs / 2 ^ 52) (2 ^ 6) (omega arith), tt)))
+  act_in_range (Return b2) l =
+      (failed, λ to i e. went _ to (returned_within r.frame.base r.pfs i, (mod_below (r.pfs / 2 ^ 52) (2 ^ 6) (omega arith), tt)))
   act_in_range (ClearBases pred_only) l = fell _ (cleared_within pred_only r.frame frame, tt)
   act_in_range (Stop unit imm) l = record { writes = tt; memory = mem; spills = tt }
   act_in_range (Idle unit) l = fell [] tt
 
   skip_in_range : (action : Action) → SkipCases (IsOutcomeInRange p) s action r m
-  skip_in_range (Test kind p1 p2 r2 r3 c) = (λ e. fell _ (predicate_in_range r.frame p1 _ _ (predicate_in_range r.frame p2 _ [] tt)), λ e. fell [] tt)
+  skip_in_range (Test kind p1 p2 r2 r3 c) =
+      (λ e. fell _ (predicate_in_range r.frame p1 _ _ (predicate_in_range r.frame p2 _ [] tt)), λ e. fell [] tt)
   skip_in_range (Loop kind disp) = (λ t. went _ _ (turned_in_range kind false), λ t. fell _ (turned_in_range kind false))
   skip_in_range action = fell [] tt
 
@@ -245,21 +276,28 @@ record IsStored (p : Program) (s : State) : Type 0 where
   registers : AreRegisters s.registers
   memory : IsMemory p s.memory
 
-step_stored : (p : Program) (s : State) (o : Outcome) (way : Next) → IsState p s → IsOutcomeInRange p o → IsStored p (step_by p s o way).state
-step_stored p s o Falls is f = record { registers = apply_keeps o.writes _ f.writes (spilled_keeps o.spills s.registers f.spills is.registers); memory = f.memory }
-step_stored p s o (Goes bundle) is f = record { registers = apply_keeps o.writes _ f.writes (spilled_keeps o.spills s.registers f.spills is.registers); memory = f.memory }
+step_stored : (p : Program) (s : State) (o : Outcome) (way : Next) → IsState p s → IsOutcomeInRange p o
+    → IsStored p (step_by p s o way).state
+step_stored p s o Falls is f =
+    record { registers = apply_keeps o.writes _ f.writes (spilled_keeps o.spills s.registers f.spills is.registers); memory = f.memory }
+step_stored p s o (Goes bundle) is f =
+    record { registers = apply_keeps o.writes _ f.writes (spilled_keeps o.spills s.registers f.spills is.registers); memory = f.memory }
 step_stored p s o (Breaks imm) is f = record { registers = is.registers; memory = is.memory }
 step_stored p s o (Faults kind) is f = record { registers = is.registers; memory = is.memory }
 
-stored_at : (p : Program) (s : State) (insn : Insn) → IsProgram p → IsState p s → insn_at p.bundles s.place ≡ Some insn → IsStored p (step_of p s (Some insn)).state
+stored_at : (p : Program) (s : State) (insn : Insn) → IsProgram p → IsState p s → insn_at p.bundles s.place ≡ Some insn
+    → IsStored p (step_of p s (Some insn)).state
 stored_at p s insn program is e =
     let b = bundle_small p.bundles s.place is.place in
     let c = program.counts.bundles in
     let below : s.place.bundle < 2 ^ 31 = omega arith in
     let o : Outcome = effect (site p s.place.bundle) insn s.registers s.memory s.registers.unat in
-    let f : IsOutcomeInRange p o = effect_in_range p (site p s.place.bundle) s.registers s.memory s.registers.unat below is.registers is.memory insn (listed_at p s.place insn program e) in
+    let f : IsOutcomeInRange p o =
+    effect_in_range p (site p s.place.bundle) s.registers s.memory s.registers.unat below is.registers is.memory insn
+    (listed_at p s.place insn program e) in
     step_stored p s (outcome_of p s insn) (outcome_of p s insn).next is
-    (settled_in_range p (site p s.place.bundle) s.registers s.memory s.registers.unat below is.registers is.memory (next_of p.bundles s.place) o.next o f)
+    (settled_in_range p (site p s.place.bundle) s.registers s.memory s.registers.unat below is.registers is.memory
+    (next_of p.bundles s.place) o.next o f)
 
 pub keeps_state : KeepsState
 keeps_state p s program is =

@@ -32,16 +32,19 @@ items_more {X} f items i x short is =
     ∙ flat_map-append f (take i items) (x ∷ []) ∙ ap (λ l. flat_map f (take i items) ++ l) (append-nil (f x))
 
 -- The text of one item more.
-pub one_item_more : {X : Type 0} (f : X → List ℕ) (items : List X) (i : ℕ) (x : X) (front old new : List ℕ) → i < length items → x ≡ get_or items i x
+pub one_item_more : {X : Type 0} (f : X → List ℕ) (items : List X) (i : ℕ) (x : X) (front old new : List ℕ) → i < length items
+    → x ≡ get_or items i x
     → old ≡ front ++ flat_map f (take i items) → new ≡ old ++ f x → new ≡ front ++ flat_map f (take (i + 1) items)
 one_item_more {X} f items i x front old new short is before after =
     grown front (flat_map f (take i items)) (f x) old new before after
     ∙ ap (λ l. front ++ l) (sym (items_more f items i x short is))
 
 -- A text that is written in three pieces.
-pub three_pieces : {T E : Type 0} (r : Result T E) (front one two new first second third whole : List ℕ) → one ≡ front ++ first → two ≡ one ++ second
+pub three_pieces : {T E : Type 0} (r : Result T E) (front one two new first second third whole : List ℕ) → one ≡ front ++ first
+    → two ≡ one ++ second
     → OnOk r (new ≡ two ++ third) → first ++ (second ++ third) ≡ whole → OnOk r (new ≡ front ++ whole)
 three_pieces {T} {E} r front one two new first second third whole a b c e =
     let begun : two ≡ front ++ (first ++ second) = grown front first second one two a b in
     let all : (first ++ second) ++ third ≡ whole = append_assoc first second third ∙ e in
-    on_ok_weaker {P = new ≡ two ++ third} {Q = new ≡ front ++ whole} r (λ d. grown front (first ++ second) third two new begun d ∙ ap (λ l. front ++ l) all) c
+    on_ok_weaker {P = new ≡ two ++ third} {Q = new ≡ front ++ whole} r
+    (λ d. grown front (first ++ second) third two new begun d ∙ ap (λ l. front ++ l) all) c

@@ -22,10 +22,12 @@ stop_laws : AreStopLaws
 stop_laws = record { layouts = layouts; stops = has_stops_as_wanted }
 
 place_laws : ArePlaceLaws
-place_laws = record { stops = stop_laws; first = first_in_slot_0; stop_before = stop_right_before_m; last = last_b_last; next = next_right_behind_b }
+place_laws =
+    record { stops = stop_laws; first = first_in_slot_0; stop_before = stop_right_before_m; last = last_b_last; next = next_right_behind_b }
 
 pub bundled_is_program : BundledIsProgram
-bundled_is_program s cs loose are runs = are_program s cs (record { laws = layouts; places = place_is_fit; filled = filled_is_bundle; loose = loose; are = are }) runs
+bundled_is_program s cs loose are runs =
+    are_program s cs (record { laws = layouts; places = place_is_fit; filled = filled_is_bundle; loose = loose; are = are }) runs
 
 pub quiet_is_short : QuietIsShort
 quiet_is_short s cs loose are quiet = runs_short layouts has_stops_as_wanted stop_decides s cs are quiet

@@ -24,7 +24,9 @@ use Rattle.stop_placer.proofs.PackFree.{violated_behind, without_elsewhere}
 
 -- Where a place's own stop is left out, none follows the place.
 without_here : (p : Program) (out : Place) → without_stop p out out ≡ false
-without_here p out = of (is_stopped p.bundles out) (out.bundle == out.bundle) (out.slot == out.slot) (eq-eqb out.bundle out.bundle refl) (eq-eqb out.slot out.slot refl)
+without_here p out =
+    of (is_stopped p.bundles out) (out.bundle == out.bundle) (out.slot == out.slot) (eq-eqb out.bundle out.bundle refl)
+    (eq-eqb out.slot out.slot refl)
   where
     of : (b x y : Bool) → x ≡ true → y ≡ true → (b && not (x && y)) ≡ false
     of true true true e f = refl
@@ -32,21 +34,33 @@ without_here p out = of (is_stopped p.bundles out) (out.bundle == out.bundle) (o
     of true false y e f = cc
     of true true false e f = cc
 
-with_stop : (g : Graph) (has_stop other : Place → Bool) (j : Place) (s : Slot) → other j ≡ has_stop j → Describes g has_stop j s → Describes g other j s
-with_stop g has_stop other j s e d = record { insn = d.insn; here = d.here; action = d.action; qp = d.qp; falls = d.falls; stop = d.stop ∙ sym e }
+with_stop : (g : Graph) (has_stop other : Place → Bool) (j : Place) (s : Slot) → other j ≡ has_stop j → Describes g has_stop j s
+    → Describes g other j s
+with_stop g has_stop other j s e d =
+    record { insn = d.insn; here = d.here; action = d.action; qp = d.qp; falls = d.falls; stop = d.stop ∙ sym e }
 
 -- The slot of a place describes it with its stop left out there.
-pub describes_here : (p : Program) (j out : Place) (s : Slot) → j ≡ out → slot_at p.bundles j ≡ Some s → Describes (over_program p) (without_stop p out) j (unstopped s)
+pub describes_here : (p : Program) (j out : Place) (s : Slot) → j ≡ out → slot_at p.bundles j ≡ Some s
+    → Describes (over_program p) (without_stop p out) j (unstopped s)
 describes_here p j out s e at =
     let d = slot_describes p j s at in
-    record { insn = d.insn; here = d.here; action = d.action; qp = d.qp; falls = d.falls; stop = sym (ap (without_stop p out) e ∙ without_here p out) }
+    record {
+      insn = d.insn;
+      here = d.here;
+      action = d.action;
+      qp = d.qp;
+      falls = d.falls;
+      stop = sym (ap (without_stop p out) e ∙ without_here p out);
+    }
 
-pub describes_other : (p : Program) (j out : Place) (s : Slot) → (j ≡ out → ⊥) → slot_at p.bundles j ≡ Some s → Describes (over_program p) (without_stop p out) j s
+pub describes_other : (p : Program) (j out : Place) (s : Slot) → (j ≡ out → ⊥) → slot_at p.bundles j ≡ Some s
+    → Describes (over_program p) (without_stop p out) j s
 describes_other p j out s apart at =
     with_stop (over_program p) (is_stopped p.bundles) (without_stop p out) j s (without_elsewhere p out j apart) (slot_describes p j s at)
 
 -- The second slot of a violation stands at a place.
-second_place : (p : Program) (has_stop : Place → Bool) (v : Violation) → ViolatesIn (over_program p) has_stop v → IsPlaceOf p.bundles v.second
+second_place : (p : Program) (has_stop : Place → Bool) (v : Violation) → ViolatesIn (over_program p) has_stop v
+    → IsPlaceOf p.bundles v.second
 second_place p has_stop v x =
     let from = comes_from (over_program p) has_stop x.walk v.first x.there.walks x.inside in
     subst (IsPlaceOf p.bundles) x.there.ends from.edge.lands
@@ -63,15 +77,18 @@ cut_none p behind out program cut w x low = cut.low (before_trans out w.second b
 pub cut_window : (p : Program) (behind out : Place) → IsCut p behind out → IsWindow (over_program p) (without_stop p out) [] behind
 cut_window p behind out cut = of cut.parted
   where
-    of : (behind ≡ first_of 0) ⊎ ((before : Place) × IsPlaceOf p.bundles before × (is_stopped p.bundles before ≡ true) × (next_of p.bundles before ≡ Some behind)) → IsWindow (over_program p) (without_stop p out) [] behind
+    of : (behind ≡ first_of 0) ⊎ ((before : Place) × IsPlaceOf p.bundles before × (is_stopped p.bundles before ≡ true)
+        × (next_of p.bundles before ≡ Some behind)) → IsWindow (over_program p) (without_stop p out) [] behind
     of (inl e) = subst (IsWindow (over_program p) (without_stop p out) []) (sym e) (first_window (over_program p) (without_stop p out))
     of (inr (before, is, stopped, follows)) =
         let n = next_is p.bundles before behind follows in
         let apart : before ≡ out → ⊥ = λ e. cut.low (subst (λ (q : Place). IsBefore q behind) e n.after) in
-        parted_window (over_program p) (without_stop p out) before behind is follows (λ edge. without_elsewhere p out before apart ∙ stopped)
+        parted_window (over_program p) (without_stop p out) before behind is follows
+        (λ edge. without_elsewhere p out before apart ∙ stopped)
 
 -- None before the next place, where none is at this one.
-pub none_next : (p : Program) (out place next : Place) → HasNoneBefore p out place → ¬ IsViolatedAt (over_program p) (without_stop p out) place → next_of p.bundles place ≡ Some next → HasNoneBefore p out next
+pub none_next : (p : Program) (out place next : Place) → HasNoneBefore p out place
+    → ¬ IsViolatedAt (over_program p) (without_stop p out) place → next_of p.bundles place ≡ Some next → HasNoneBefore p out next
 none_next p out place next none here follows w x low = of (place_cases w.second place)
   where
     of : IsBefore w.second place ⊎ ((w.second ≡ place) ⊎ IsBefore place w.second) → ⊥
@@ -80,7 +97,8 @@ none_next p out place next none here follows w x low = of (place_cases w.second 
     of (inr (inr h)) = let n = next_is p.bundles place next follows in n.first w.second (second_place p (without_stop p out) w x) h low
 
 -- The last place can't be passed.
-pub some_left : (p : Program) (out place : Place) (v : Violation) → ViolatesIn (over_program p) (without_stop p out) v → HasNoneBefore p out place → ¬ IsViolatedAt (over_program p) (without_stop p out) place → next_of p.bundles place ≡ None → ⊥
+pub some_left : (p : Program) (out place : Place) (v : Violation) → ViolatesIn (over_program p) (without_stop p out) v
+    → HasNoneBefore p out place → ¬ IsViolatedAt (over_program p) (without_stop p out) place → next_of p.bundles place ≡ None → ⊥
 some_left p out place v x none here last = of (place_cases v.second place)
   where
     of : IsBefore v.second place ⊎ ((v.second ≡ place) ⊎ IsBefore place v.second) → ⊥
@@ -89,10 +107,12 @@ some_left p out place v x none here last = of (place_cases v.second place)
     of (inr (inr h)) = rw last at (next_fits p.bundles place) v.second (second_place p (without_stop p out) v x) h
 
 -- The first violation at the first place that has one is the first of all.
-pub first_of_all : (p : Program) (out place : Place) (v : Violation) → HasNoneBefore p out place → IsFirstAt (over_program p) (without_stop p out) place v → IsFirst (over_program p) (without_stop p out) v
+pub first_of_all : (p : Program) (out place : Place) (v : Violation) → HasNoneBefore p out place
+    → IsFirstAt (over_program p) (without_stop p out) place v → IsFirst (over_program p) (without_stop p out) v
 first_of_all p out place v none at = record { violates = at.violates; first = λ w x. of w x (place_cases w.second place) }
   where
-    of : (w : Violation) → ViolatesIn (over_program p) (without_stop p out) w → IsBefore w.second place ⊎ ((w.second ≡ place) ⊎ IsBefore place w.second) → (v ≡ w) ⊎ Precedes v w
+    of : (w : Violation) → ViolatesIn (over_program p) (without_stop p out) w
+        → IsBefore w.second place ⊎ ((w.second ≡ place) ⊎ IsBefore place w.second) → (v ≡ w) ⊎ Precedes v w
     of w x (inl h) = absurd (none w x h)
     of w x (inr (inl e)) = at.first w x e
     of w x (inr (inr h)) = inr (precedes_by_second v w (subst (λ (q : Place). IsBefore q w.second) (sym at.second) h))

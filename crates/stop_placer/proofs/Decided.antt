@@ -27,8 +27,10 @@ pub record IsDecided (s : Loose) (causes : List (Option Cause)) (n : ℕ) (cause
   pub pair : cause ≡ Some Pair → IsPairAt s (take n causes) (n + 1)
 
 -- As the text and the test say.
-decided_by : (s : Loose) (before : List (Option Cause)) (n : ℕ) (written pair long : Bool) → (written ≡ false → Decides pair (IsPairAt s before (n + 1)))
-    → (or_long (first_cause written pair) long ≡ None → ¬ IsPairAt s before (n + 1)) × (or_long (first_cause written pair) long ≡ Some Pair → IsPairAt s before (n + 1))
+decided_by : (s : Loose) (before : List (Option Cause)) (n : ℕ) (written pair long : Bool)
+    → (written ≡ false → Decides pair (IsPairAt s before (n + 1)))
+    → (or_long (first_cause written pair) long ≡ None → ¬ IsPairAt s before (n + 1))
+    × (or_long (first_cause written pair) long ≡ Some Pair → IsPairAt s before (n + 1))
 decided_by s before n true pair long right = (λ e. absurd cc, λ e. absurd cc)
 decided_by s before n false true long right = (λ e. absurd cc, λ e. (right refl).0 refl)
 decided_by s before n false false true right = (λ e. absurd cc, λ e. absurd cc)
@@ -38,9 +40,11 @@ abbrev AreDecided : Loose → Packing → List Item → Item → Type 0
 AreDecided s k done before = (n : ℕ) (cause : Option Cause) → slice_get k.causes n ≡ Some cause → IsDecided s k.causes n cause
 
 -- One more.
-decided_more : (s : Loose) (causes : List (Option Cause)) (written pair long : Bool) → (written ≡ false → Decides pair (IsPairAt s causes (length causes + 1)))
+decided_more : (s : Loose) (causes : List (Option Cause)) (written pair long : Bool)
+    → (written ≡ false → Decides pair (IsPairAt s causes (length causes + 1)))
     → ((n : ℕ) (cause : Option Cause) → slice_get causes n ≡ Some cause → IsDecided s causes n cause)
-    → (n : ℕ) (cause : Option Cause) → slice_get (causes ++ or_long (first_cause written pair) long ∷ []) n ≡ Some cause → IsDecided s (causes ++ or_long (first_cause written pair) long ∷ []) n cause
+    → (n : ℕ) (cause : Option Cause) → slice_get (causes ++ or_long (first_cause written pair) long ∷ []) n ≡ Some cause
+    → IsDecided s (causes ++ or_long (first_cause written pair) long ∷ []) n cause
 decided_more s causes written pair long right decided n cause there = of (cases_lt n (length causes))
   where
     new : Option Cause
@@ -64,8 +68,11 @@ decided_more s causes written pair long right decided n cause there = of (cases_
         let is : new ≡ cause = sym (get_or_push causes new new n e) ∙ at in
         let by = decided_by s causes (length causes) written pair long right in
         record {
-          none = λ f x. by.0 (is ∙ f) (subst (IsPairAt s causes) (sym number) (subst (λ (l : List (Option Cause)). IsPairAt s l (n + 1)) same x));
-          pair = λ f. subst (λ (l : List (Option Cause)). IsPairAt s l (n + 1)) (sym same) (subst (IsPairAt s causes) number (by.1 (is ∙ f)));
+          none =
+              λ f x. by.0 (is ∙ f) (subst (IsPairAt s causes) (sym number)
+              (subst (λ (l : List (Option Cause)). IsPairAt s l (n + 1)) same x));
+          pair =
+              λ f. subst (λ (l : List (Option Cause)). IsPairAt s l (n + 1)) (sym same) (subst (IsPairAt s causes) number (by.1 (is ∙ f)));
         }
       where
         at : get_or all n new ≡ cause
@@ -74,11 +81,14 @@ decided_more s causes written pair long right decided n cause there = of (cases_
 decided_kept : (s : Loose) → IsKept s (AreDecided s)
 decided_kept s k done before item pair right decided =
     let new = new_cause k before item pair in
-    subst (λ (causes : List (Option Cause)). (n : ℕ) (cause : Option Cause) → slice_get causes n ≡ Some cause → IsDecided s causes n cause) (sym new.causes)
+    subst (λ (causes : List (Option Cause)). (n : ℕ) (cause : Option Cause) → slice_get causes n ≡ Some cause → IsDecided s causes n cause)
+    (sym new.causes)
     (decided_more s k.causes before.written pair new.long right decided)
 
-pub decided_at : (s : Loose) (k : Packing) (n : ℕ) (cause : Option Cause) → IsPack s k → slice_get k.causes n ≡ Some cause → IsDecided s k.causes n cause
-decided_at s k n cause pack there = (kept_of s (AreDecided s) (decided_kept s) (λ item n cause there. absurd cc) s.items k pack).1 n cause there
+pub decided_at : (s : Loose) (k : Packing) (n : ℕ) (cause : Option Cause) → IsPack s k → slice_get k.causes n ≡ Some cause
+    → IsDecided s k.causes n cause
+decided_at s k n cause pack there =
+    (kept_of s (AreDecided s) (decided_kept s) (λ item n cause there. absurd cc) s.items k pack).1 n cause there
 
 get_or-map_default : {X Y : Type 0} (f : X → Y) (xs : List X) (n : ℕ) (d : X) → get_or (map f xs) n (f d) ≡ f (get_or xs n d)
 get_or-map_default f [] n d = refl
@@ -86,13 +96,16 @@ get_or-map_default f (x ∷ xs) zero d = refl
 get_or-map_default f (x ∷ xs) (suc n) d = get_or-map_default f xs n d
 
 -- A stop is wanted behind an instruction where there is a cause.
-pub sequence_stop_is : (s : Loose) (k : Packing) (place : Place) → IsPack s k → sequence_stop (all_chunks s k) place ≡ stopped_by (all_causes s k) place
-sequence_stop_is s k place pack = ap (λ (l : List Bool). get_or l place.bundle false) (pack_gaps s k pack) ∙ get_or-map_default is_some (all_causes s k) place.bundle None
+pub sequence_stop_is : (s : Loose) (k : Packing) (place : Place) → IsPack s k
+    → sequence_stop (all_chunks s k) place ≡ stopped_by (all_causes s k) place
+sequence_stop_is s k place pack =
+    ap (λ (l : List Bool). get_or l place.bundle false) (pack_gaps s k pack) ∙ get_or-map_default is_some (all_causes s k) place.bundle None
 
 -- Where no stop comes at the n-th gap, stops that go on like all causes stand before the next instruction where the
 -- causes before that gap have them.
 pub front_agrees : (causes : List (Option Cause)) (rest : List (Option Cause)) (n : ℕ) (has_stop : Place → Bool) → n ≤ length causes
-    → ((place : Place) → place.bundle < n → has_stop place ≡ stopped_by (causes ++ rest) place) → ((place : Place) → place.bundle ≡ n → has_stop place ≡ false)
+    → ((place : Place) → place.bundle < n → has_stop place ≡ stopped_by (causes ++ rest) place)
+    → ((place : Place) → place.bundle ≡ n → has_stop place ≡ false)
     → AgreeBefore (first_of (n + 1)) has_stop (stopped_by (take n causes))
 front_agrees causes rest n has_stop room before here place less = of (below less)
   where

@@ -24,7 +24,9 @@ gaps_in_more (w ∷ v ∷ ws) x end = ap (λ (l : List Bool). v.gap ∷ l) (gaps
 
 pub gaps_of_append : (cs ds : List Chunk) → gaps_of (cs ++ ds) ≡ gaps_of cs ++ gaps_of ds
 gaps_of_append [] ds = refl
-gaps_of_append (c ∷ cs) ds = ap (λ (l : List Bool). gaps_in c.wanted c.end ++ l) (gaps_of_append cs ds) ∙ sym (append_assoc (gaps_in c.wanted c.end) (gaps_of cs) (gaps_of ds))
+gaps_of_append (c ∷ cs) ds =
+    ap (λ (l : List Bool). gaps_in c.wanted c.end ++ l) (gaps_of_append cs ds)
+    ∙ sym (append_assoc (gaps_in c.wanted c.end) (gaps_of cs) (gaps_of ds))
 
 pub gaps_of_last : (cs : List Chunk) (c : Chunk) → gaps_of (cs ++ c ∷ []) ≡ gaps_of cs ++ gaps_in c.wanted c.end
 gaps_of_last cs c = gaps_of_append cs (c ∷ []) ∙ ap (λ (l : List Bool). gaps_of cs ++ l) (append-nil (gaps_in c.wanted c.end))
@@ -40,7 +42,8 @@ gaps_next : (gaps : List Bool) (ws : List Wanted) (causes : List (Option Cause))
     → (gaps ++ gaps_in ws (is_some cause)) ++ end ∷ [] ≡ map is_some (causes ++ cause ∷ []) ++ end ∷ []
 gaps_next gaps ws causes cause end same = ap (λ (l : List Bool). l ++ end ∷ []) (same ∙ sym (map_push is_some causes cause))
 
-gaps_joined : (k : Packing) (done : List Item) (before item : Item) (cause : Option Cause) → HasGaps k done before → HasGaps (joined k item cause) (done ++ item ∷ []) item
+gaps_joined : (k : Packing) (done : List Item) (before item : Item) (cause : Option Cause) → HasGaps k done before
+    → HasGaps (joined k item cause) (done ++ item ∷ []) item
 gaps_joined k done before item cause has = record {
   gaps = λ end.
       ap (λ (l : List Bool). gaps_of (reverse k.closed) ++ l) (gaps_in_more k.current (wanted_as item (is_some cause)) end)
@@ -49,10 +52,12 @@ gaps_joined k done before item cause has = record {
   count = let count = has.count in omega (arith, length_push k.causes cause, length_push done item);
 }
 
-gaps_begun : (k : Packing) (done : List Item) (before item : Item) (cause : Option Cause) → HasGaps k done before → HasGaps (begun k item cause) (done ++ item ∷ []) item
+gaps_begun : (k : Packing) (done : List Item) (before item : Item) (cause : Option Cause) → HasGaps k done before
+    → HasGaps (begun k item cause) (done ++ item ∷ []) item
 gaps_begun k done before item cause has = record {
   gaps = λ end.
-      ap (λ (l : List Bool). l ++ end ∷ []) (ap gaps_of (reverse_more (chunk k.current (is_some cause)) k.closed) ∙ gaps_of_last (reverse k.closed) (chunk k.current (is_some cause)))
+      ap (λ (l : List Bool). l ++ end ∷ []) (ap gaps_of (reverse_more (chunk k.current (is_some cause)) k.closed)
+      ∙ gaps_of_last (reverse k.closed) (chunk k.current (is_some cause)))
       ∙ gaps_next (gaps_of (reverse k.closed)) k.current k.causes cause end (has.gaps (is_some cause));
   count = let count = has.count in omega (arith, length_push k.causes cause, length_push done item);
 }

@@ -41,7 +41,8 @@ long_is p after why.Written r = absurd r
 long_is p after why.Long r = refl
 long_is p after (why.Pair v) r = absurd r
 
-pair_is : (p : Program) (after : Place) (w : Why) → IsReason p after cause.Pair w → (v : Violation) × IsFirst (over_program p) (without_stop p after) v × (w ≡ why.Pair v)
+pair_is : (p : Program) (after : Place) (w : Why) → IsReason p after cause.Pair w
+    → (v : Violation) × IsFirst (over_program p) (without_stop p after) v × (w ≡ why.Pair v)
 pair_is p after why.Written r = absurd r
 pair_is p after why.Long r = absurd r
 pair_is p after (why.Pair v) r = (v, r, refl)
@@ -66,7 +67,8 @@ first_before : (x y : StopWhy) (xs : List StopWhy) → Rise (x ∷ xs) → Conta
 first_before x y xs rises (k, inside, is) = rises 0 (suc k) x y refl (slice_get-get_or xs k y inside ∙ ap Some is) (omega arith)
 
 -- Two rising lists of the same stops are one.
-one_rising : (xs ys : List StopWhy) → Rise xs → Rise ys → ((z : StopWhy) → Contains xs z → Contains ys z) → ((z : StopWhy) → Contains ys z → Contains xs z) → xs ≡ ys
+one_rising : (xs ys : List StopWhy) → Rise xs → Rise ys → ((z : StopWhy) → Contains xs z → Contains ys z)
+    → ((z : StopWhy) → Contains ys z → Contains xs z) → xs ≡ ys
 one_rising [] [] a b f g = refl
 one_rising [] (y ∷ ys) a b f g = absurd (not_in_none y (g y (head_in y ys)))
 one_rising (x ∷ xs) [] a b f g = absurd (not_in_none x (f x (head_in x xs)))
@@ -79,16 +81,20 @@ one_rising (x ∷ xs) (y ∷ ys) a b f g =
     first_of_both : (y ≡ x) ⊎ Contains ys x → (x ≡ y) ⊎ Contains xs y → x ≡ y
     first_of_both (inl e) _ = sym e
     first_of_both (inr h) (inl e) = e
-    first_of_both (inr h) (inr k) = absurd (not_before_itself x.after (before_trans x.after y.after x.after (first_before x y xs a k) (first_before y x ys b h)))
+    first_of_both (inr h) (inr k) =
+        absurd (not_before_itself x.after (before_trans x.after y.after x.after (first_before x y xs a k) (first_before y x ys b h)))
 
     same : x ≡ y
     same = first_of_both (cases_in y x ys (f x (head_in x xs))) (cases_in x y xs (g y (head_in y ys)))
 
-    kept : (u v : StopWhy) (us vs : List StopWhy) → Rise (u ∷ us) → ((z : StopWhy) → v ≡ z → u ≡ z) → (z : StopWhy) → Contains us z → (v ≡ z) ⊎ Contains vs z → Contains vs z
-    kept u v us vs rises joins z c (inl e) = absurd (not_before_itself z.after (subst (λ (q : StopWhy). IsBefore q.after z.after) (joins z e) (first_before u z us rises c)))
+    kept : (u v : StopWhy) (us vs : List StopWhy) → Rise (u ∷ us) → ((z : StopWhy) → v ≡ z → u ≡ z) → (z : StopWhy) → Contains us z
+        → (v ≡ z) ⊎ Contains vs z → Contains vs z
+    kept u v us vs rises joins z c (inl e) =
+        absurd (not_before_itself z.after (subst (λ (q : StopWhy). IsBefore q.after z.after) (joins z e) (first_before u z us rises c)))
     kept u v us vs rises joins z c (inr d) = d
 
-module _ (p : Program) (at : ℕ → Place) (causes : List (Option Cause)) (rises : (n m : ℕ) → n < m → m < length causes → IsBefore (at n) (at m)) where
+module _ (p : Program) (at : ℕ → Place) (causes : List (Option Cause))
+    (rises : (n m : ℕ) → n < m → m < length causes → IsBefore (at n) (at m)) where
   -- A stop that stands behind an instruction doesn't stand behind a later one.
   not_behind_later : (x y : StopWhy) (a : IsExplained p at causes x) (b : IsExplained p at causes y) → x.after ≡ y.after → a.n < b.n → ⊥
   not_behind_later x y a b same less = of (cases_lt (a.n + 1) b.n)
@@ -116,10 +122,14 @@ module _ (p : Program) (at : ℕ → Place) (causes : List (Option Cause)) (rise
   one_explained x y a b same = λ i. record { after = same i; why = reason i }
     where
       both : a.cause ≡ b.cause
-      both = same_Some a.cause b.cause (same_Some (Some a.cause) (Some b.cause) (sym a.is ∙ ap (slice_get causes) (same_number x y a b same) ∙ b.is))
+      both =
+          same_Some a.cause b.cause (same_Some (Some a.cause) (Some b.cause)
+          (sym a.is ∙ ap (slice_get causes) (same_number x y a b same) ∙ b.is))
 
       reason : x.why ≡ y.why
-      reason = one_reason p y.after b.cause x.why y.why (subst (λ (q : Place). IsReason p q b.cause x.why) same (subst (λ (c : Cause). IsReason p x.after c x.why) both a.reason)) b.reason
+      reason =
+          one_reason p y.after b.cause x.why y.why (subst (λ (q : Place). IsReason p q b.cause x.why) same
+          (subst (λ (c : Cause). IsReason p x.after c x.why) both a.reason)) b.reason
 
   named_in : (xs ys : List StopWhy) → NamesStops p at causes xs → NamesStops p at causes ys → (z : StopWhy) → Contains xs z → Contains ys z
   named_in xs ys a b z c =

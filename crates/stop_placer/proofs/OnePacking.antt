@@ -14,14 +14,17 @@ use Rattle.stop_placer.specs.Packs.{GoesOnTo, IsPackOf, IsPack, IsFirstPast, end
 use Rattle.stop_placer.proofs.Steps.{IsRight}
 
 -- An item more makes the same packing, whichever right answer is taken.
-same_next : (s : Loose) (k : Packing) (before item : Item) (pair other : Bool) → IsRight s k before pair → IsRight s k before other → packed_next k before item pair ≡ packed_next k before item other
-same_next s k before item pair other right also = ap (λ (c : Option Cause). by_joining (joins k.current before item (is_some c)) k item c) (of before.written refl)
+same_next : (s : Loose) (k : Packing) (before item : Item) (pair other : Bool) → IsRight s k before pair → IsRight s k before other
+    → packed_next k before item pair ≡ packed_next k before item other
+same_next s k before item pair other right also =
+    ap (λ (c : Option Cause). by_joining (joins k.current before item (is_some c)) k item c) (of before.written refl)
   where
     of : (w : Bool) → before.written ≡ w → first_cause before.written pair ≡ first_cause before.written other
     of false e = ap (first_cause before.written) (one_answer pair other (right e) (also e))
     of true e = ap (λ (w : Bool). first_cause w pair) e ∙ sym (ap (λ (w : Bool). first_cause w other) e)
 
-one_on : (s : Loose) (k : Packing) (before : Item) (items : List Item) (last other : Packing) → GoesOnTo s k before items last → GoesOnTo s k before items other → last ≡ other
+one_on : (s : Loose) (k : Packing) (before : Item) (items : List Item) (last other : Packing) → GoesOnTo s k before items last
+    → GoesOnTo s k before items other → last ≡ other
 one_on s k before [] last other a b = a ∙ sym b
 one_on s k before (item ∷ items) last other (pair, right, goes) (too, also, on) =
     one_on s (packed_next k before item pair) item items last other goes
@@ -39,7 +42,8 @@ record HasFront (s : Loose) (k : Packing) (before : Item) (front items : List It
   up : GoesOnTo s k before front middle
   rest : GoesOnTo s middle item items last
 
-has_front : (s : Loose) (k : Packing) (before : Item) (front items : List Item) (last : Packing) → GoesOnTo s k before (front ++ items) last → HasFront s k before front items last
+has_front : (s : Loose) (k : Packing) (before : Item) (front items : List Item) (last : Packing) → GoesOnTo s k before (front ++ items) last
+    → HasFront s k before front items last
 has_front s k before [] items last goes = record { middle = k; item = before; up = refl; rest = goes }
 has_front s k before (item ∷ front) items last (pair, right, goes) =
     let rest = has_front s (packed_next k before item pair) item front items last goes in
@@ -54,7 +58,8 @@ grown_by : (k : Packing) (item : Item) (cause : Option Cause) (b : Bool) → IsG
 grown_by k item cause true = record { closed = omega arith; current = λ e. length_push k.current (wanted_as item (is_some cause)) }
 grown_by k item cause false = record { closed = omega arith; current = λ e. absurd (omega arith) }
 
-grown_on : (s : Loose) (k : Packing) (before : Item) (items : List Item) (last : Packing) → GoesOnTo s k before items last → IsGrown k last (length items)
+grown_on : (s : Loose) (k : Packing) (before : Item) (items : List Item) (last : Packing) → GoesOnTo s k before items last
+    → IsGrown k last (length items)
 grown_on s k before [] last goes = record {
   closed = let same = ap (λ (l : Packing). length l.closed) goes in omega arith;
   current = λ e. let same = ap (λ (l : Packing). length l.current) goes in omega arith;
@@ -76,7 +81,8 @@ grown_on s k before (item ∷ items) last (pair, right, goes) =
         }
 
 -- The packing of the first items and that of more.
-pub front_grown : (s : Loose) (front more : List Item) (k last : Packing) → IsPackOf s front k → IsPackOf s (front ++ more) last → IsGrown k last (length more)
+pub front_grown : (s : Loose) (front more : List Item) (k last : Packing) → IsPackOf s front k → IsPackOf s (front ++ more) last
+    → IsGrown k last (length more)
 front_grown s [] more k last a b = absurd a
 front_grown s (item ∷ front) more k last a b =
     let passed = has_front s (begun_with item) item front more last b in
@@ -98,7 +104,8 @@ up_to_is s n past =
 count_is : (s : Loose) (n : ℕ) (past : IsFirstPast s n) → length s.items ≡ n + 1 + length past.after
 count_is s n past =
     let number = past.number in
-    ap (length {A = Item}) (whole s n past) ∙ (let sum = length-append (up_to s n past) past.after in omega (arith, length_push past.before past.item))
+    ap (length {A = Item}) (whole s n past) ∙ (let sum = length-append (up_to s n past) past.after in
+    omega (arith, length_push past.before past.item))
 
 -- No later item begins one, since this one has.
 none_later : (s : Loose) (n m : ℕ) → IsFirstPast s n → IsFirstPast s m → n < m → ⊥
@@ -128,6 +135,8 @@ one_first_past s n m a b = of (cases_order n m)
 -- No item begins a bundle past the limit where the whole packing is within it.
 pub none_past : (s : Loose) (k : Packing) (n : ℕ) → IsPack s k → length (all_chunks s k) ≤ BUNDLE_LIMIT → IsFirstPast s n → ⊥
 none_past s k n pack few past =
-    let grown = front_grown s (up_to s n past) past.after past.packing k past.is (subst (λ (l : List Item). IsPackOf s l k) (whole s n past) pack) in
+    let grown =
+    front_grown s (up_to s n past) past.after past.packing k past.is
+    (subst (λ (l : List Item). IsPackOf s l k) (whole s n past) pack) in
     let closed = grown.closed in
     let full = past.full in omega (arith, length-reverse (chunk k.current (ends_written s.items) ∷ k.closed))

@@ -23,13 +23,15 @@ holds_length [] (item ∷ items) h = absurd h
 holds_length (w ∷ ws) [] h = absurd h
 holds_length (w ∷ ws) (item ∷ items) (is, h) = ap suc (holds_length ws items h)
 
-holds_more : (ws : List Wanted) (items : List Item) (item : Item) (gap : Bool) → Holds ws items → Holds (ws ++ wanted_as item gap ∷ []) (items ++ item ∷ [])
+holds_more : (ws : List Wanted) (items : List Item) (item : Item) (gap : Bool) → Holds ws items
+    → Holds (ws ++ wanted_as item gap ∷ []) (items ++ item ∷ [])
 holds_more [] [] item gap h = (refl, tt)
 holds_more [] (i ∷ items) item gap h = absurd h
 holds_more (w ∷ ws) [] item gap h = absurd h
 holds_more (w ∷ ws) (i ∷ items) item gap (is, h) = (is, holds_more ws items item gap h)
 
-together_more : (front : List Item) (before item : Item) → item.breaks ≡ false → ¬ IsCall before.insn.op → KeepTogether (front ++ before ∷ []) → KeepTogether ((front ++ before ∷ []) ++ item ∷ [])
+together_more : (front : List Item) (before item : Item) → item.breaks ≡ false → ¬ IsCall before.insn.op
+    → KeepTogether (front ++ before ∷ []) → KeepTogether ((front ++ before ∷ []) ++ item ∷ [])
 together_more [] before item breaks call h = (breaks, call, tt)
 together_more (a ∷ []) before item breaks call (x, y, h) = (x, y, together_more [] before item breaks call h)
 together_more (a ∷ b ∷ front) before item breaks call (x, y, h) = (x, y, together_more (b ∷ front) before item breaks call h)
@@ -58,16 +60,19 @@ pub record AreJoined (ws : List Wanted) (before item : Item) (gap : Bool) : Type
   pub laid : IsSome (laid_out (ws ++ wanted_as item gap ∷ []) false)
 
 pub joined_is : (ws : List Wanted) (before item : Item) (gap : Bool) → joins ws before item gap ≡ true → AreJoined ws before item gap
-joined_is ws before item gap e = of item.breaks (is_call before.insn.op) (is_some (laid_out (ws ++ wanted_as item gap ∷ []) false)) refl refl refl e
+joined_is ws before item gap e =
+    of item.breaks (is_call before.insn.op) (is_some (laid_out (ws ++ wanted_as item gap ∷ []) false)) refl refl refl e
   where
-    of : (x y z : Bool) → item.breaks ≡ x → is_call before.insn.op ≡ y → is_some (laid_out (ws ++ wanted_as item gap ∷ []) false) ≡ z → (not x && (not y && z)) ≡ true → AreJoined ws before item gap
+    of : (x y z : Bool) → item.breaks ≡ x → is_call before.insn.op ≡ y → is_some (laid_out (ws ++ wanted_as item gap ∷ []) false) ≡ z
+        → (not x && (not y && z)) ≡ true → AreJoined ws before item gap
     of false false true x y z e = record { breaks = x; call = no_call before.insn.op y; laid = z }
     of false false false x y z e = absurd cc
     of false true z _ _ _ e = absurd cc
     of true y z _ _ _ e = absurd cc
 
 -- Another item joins it.
-pub open_joined : (ws : List Wanted) (items : List Item) (before item : Item) (gap : Bool) → joins ws before item gap ≡ true → IsOpen ws items before
+pub open_joined : (ws : List Wanted) (items : List Item) (before item : Item) (gap : Bool) → joins ws before item gap ≡ true
+    → IsOpen ws items before
     → IsOpen (ws ++ wanted_as item gap ∷ []) (items ++ item ∷ []) item
 open_joined ws items before item gap e current =
     let joined = joined_is ws before item gap e in
@@ -89,22 +94,29 @@ laid_with ws true laid = subst (IsSome {T = ℕ × List ℕ}) (sym (end_takes_ne
     of (Some layout) h = refl
 
 -- It is closed, with a stop at its end or none.
-pub open_closed : (ws : List Wanted) (items : List Item) (before : Item) (end : Bool) → IsOpen ws items before → IsChunk (chunk ws end) items
-open_closed ws items before end current = record { holds = current.holds; together = current.together; laid = laid_with ws end current.laid }
+pub open_closed : (ws : List Wanted) (items : List Item) (before : Item) (end : Bool) → IsOpen ws items before
+    → IsChunk (chunk ws end) items
+open_closed ws items before end current =
+    record { holds = current.holds; together = current.together; laid = laid_with ws end current.laid }
 
 -- Chunks of further items behind one chunk.
-pub chunk_first : (c : Chunk) (cs : List Chunk) (items more : List Item) → IsChunk c items → AreChunks cs more → AreChunks (c ∷ cs) (items ++ more)
+pub chunk_first : (c : Chunk) (cs : List Chunk) (items more : List Item) → IsChunk c items → AreChunks cs more
+    → AreChunks (c ∷ cs) (items ++ more)
 chunk_first c cs items more is are =
-    let count = sym (holds_length c.wanted items is.holds) in
-    (subst (IsChunk c) (sym (take_at items more (length c.wanted) count)) is, subst (AreChunks cs) (sym (drop_at items more (length c.wanted) count)) are)
+    let count = sym (holds_length c.wanted items is.holds) in (
+      subst (IsChunk c) (sym (take_at items more (length c.wanted) count)) is,
+      subst (AreChunks cs) (sym (drop_at items more (length c.wanted) count)) are,
+    )
 
 -- One chunk behind the chunks of the items before.
-pub chunk_last : (cs : List Chunk) (c : Chunk) (items more : List Item) → AreChunks cs items → IsChunk c more → AreChunks (cs ++ c ∷ []) (items ++ more)
+pub chunk_last : (cs : List Chunk) (c : Chunk) (items more : List Item) → AreChunks cs items → IsChunk c more
+    → AreChunks (cs ++ c ∷ []) (items ++ more)
 chunk_last [] c [] more are is = subst (AreChunks (c ∷ [])) (append-nil more) (chunk_first c [] more [] is tt)
 chunk_last [] c (item ∷ items) more are is = absurd are
 chunk_last (d ∷ cs) c items more (first, are) is = (
   subst (IsChunk d) (sym (take-append-le (length d.wanted) items more room)) first,
-  subst (AreChunks (cs ++ c ∷ [])) (sym (drop-append-le (length d.wanted) items more room)) (chunk_last cs c (drop (length d.wanted) items) more are is),
+  subst (AreChunks (cs ++ c ∷ [])) (sym (drop-append-le (length d.wanted) items more room))
+      (chunk_last cs c (drop (length d.wanted) items) more are is),
 )
   where
     room : length d.wanted ≤ length items

@@ -24,11 +24,13 @@ record HoldsAll (k : Packing) (done : List Item) (before : Item) : Type 0 where
   current : IsOpen k.current held before
 
 -- With the current one closed.
-all_closed : (k : Packing) (done : List Item) (before : Item) (end : Bool) → HoldsAll k done before → AreChunks (reverse (chunk k.current end ∷ k.closed)) done
+all_closed : (k : Packing) (done : List Item) (before : Item) (end : Bool) → HoldsAll k done before
+    → AreChunks (reverse (chunk k.current end ∷ k.closed)) done
 all_closed k done before end holds =
     subst (λ (cs : List Chunk). AreChunks cs done) (sym (reverse_more (chunk k.current end) k.closed))
     (subst (AreChunks (reverse k.closed ++ chunk k.current end ∷ [])) (sym holds.all)
-    (chunk_last (reverse k.closed) (chunk k.current end) holds.shut holds.held holds.closed (open_closed k.current holds.held before end holds.current)))
+    (chunk_last (reverse k.closed) (chunk k.current end) holds.shut holds.held holds.closed
+    (open_closed k.current holds.held before end holds.current)))
 
 all_kept : IsKeptEach HoldsAll
 all_kept = record {
@@ -50,9 +52,16 @@ all_kept = record {
 
 holds_all : (s : Loose) (k : Packing) → IsPack s k → (end : Item) × HoldsAll k s.items end
 holds_all s k pack =
-    kept_of s HoldsAll (kept_each s HoldsAll all_kept) (λ item. record { shut = []; held = item ∷ []; all = refl; closed = tt; current = open_begun item }) s.items k pack
+    kept_of s HoldsAll (kept_each s HoldsAll all_kept) (λ item. record {
+      shut = [];
+      held = item ∷ [];
+      all = refl;
+      closed = tt;
+      current = open_begun item;
+    }) s.items k pack
 
-pub pack_are_chunks : (s : Loose) (k : Packing) → IsLoose s → IsPack s k → length (all_chunks s k) ≤ BUNDLE_LIMIT → AreChunksOf s (all_chunks s k)
+pub pack_are_chunks : (s : Loose) (k : Packing) → IsLoose s → IsPack s k → length (all_chunks s k) ≤ BUNDLE_LIMIT
+    → AreChunksOf s (all_chunks s k)
 pack_are_chunks s k is pack few =
     let holds = holds_all s k pack in record { chunks = all_closed k s.items holds.0 (ends_written s.items) holds.1; few = few }
 

@@ -13,16 +13,20 @@ use Rattle.stop_placer.specs.Packings.{Packing, begun_with, first_cause, or_long
 use Rattle.stop_placer.specs.Packs.{GoesOnTo, IsPackOf, IsFirstPast}
 use Rattle.stop_placer.proofs.Steps.{IsRight}
 
-goes_last : (s : Loose) (k q : Packing) (last item : Item) (pair : Bool) → q ≡ k → IsRight s q last pair → GoesOnTo s k last (item ∷ []) (packed_next q last item pair)
+goes_last : (s : Loose) (k q : Packing) (last item : Item) (pair : Bool) → q ≡ k → IsRight s q last pair
+    → GoesOnTo s k last (item ∷ []) (packed_next q last item pair)
 goes_last s k q last item pair same right =
     (pair, subst (λ (p : Packing). IsRight s p last pair) same right, ap (λ (p : Packing). packed_next p last item pair) same)
 
-goes_grows : (s : Loose) (k q : Packing) (before : Item) (front : List Item) (last item : Item) (pair : Bool) → GoesOnTo s k before (front ++ last ∷ []) q → IsRight s q last pair
+goes_grows : (s : Loose) (k q : Packing) (before : Item) (front : List Item) (last item : Item) (pair : Bool)
+    → GoesOnTo s k before (front ++ last ∷ []) q → IsRight s q last pair
     → GoesOnTo s k before ((front ++ last ∷ []) ++ item ∷ []) (packed_next q last item pair)
 goes_grows s k q before [] last item pair (p, r, same) right = (p, r, goes_last s (packed_next k before last p) q last item pair same right)
-goes_grows s k q before (x ∷ front) last item pair (p, r, goes) right = (p, r, goes_grows s (packed_next k before x p) q x front last item pair goes right)
+goes_grows s k q before (x ∷ front) last item pair (p, r, goes) right =
+    (p, r, goes_grows s (packed_next k before x p) q x front last item pair goes right)
 
-pack_grows : (s : Loose) (k : Packing) (front : List Item) (last item : Item) (pair : Bool) → IsPackOf s (front ++ last ∷ []) k → IsRight s k last pair
+pack_grows : (s : Loose) (k : Packing) (front : List Item) (last item : Item) (pair : Bool) → IsPackOf s (front ++ last ∷ []) k
+    → IsRight s k last pair
     → IsPackOf s ((front ++ last ∷ []) ++ item ∷ []) (packed_next k last item pair)
 pack_grows s k [] last item pair same right = goes_last s (begun_with last) k last item pair same right
 pack_grows s k (x ∷ front) last item pair goes right = goes_grows s (begun_with x) k x front last item pair goes right
@@ -43,7 +47,13 @@ next_takes_one k before item pair = of (joins k.current before item (is_some cau
 
     of : (b : Bool) → TakesOne k (by_joining b k item cause)
     of true = record { gap = cause; causes = refl; closed = omega arith; begins = λ h. absurd (omega (arith, h)) }
-    of false = record { gap = or_long cause (are_quiet QUIET_LIMIT (chunk k.current false ∷ k.closed)); causes = refl; closed = omega arith; begins = λ h. refl }
+    of false =
+        record {
+          gap = or_long cause (are_quiet QUIET_LIMIT (chunk k.current false ∷ k.closed));
+          causes = refl;
+          closed = omega arith;
+          begins = λ h. refl;
+        }
 
 -- The packing is that of the first n instructions of the text, at least one.
 pub record IsPackedSo (s : Loose) (n : ℕ) (k : Packing) : Type 0 where
@@ -93,16 +103,20 @@ module _ (s : Loose) (n : ℕ) (k : Packing) (so : IsPackedSo s n k) where
       of : (rest : List Item) → s.items ≡ (so.front ++ so.last ∷ []) ++ rest → HasNext item
       of [] e = absurd (omega (arith, inside, ap (length {A = Item}) e, length-append (so.front ++ so.last ∷ []) [], length_so))
       of (x ∷ rest) e =
-          let at : item ≡ x = is ∙ ap (λ (l : List Item). get_or l n item) e ∙ ap (λ (i : ℕ). get_or ((so.front ++ so.last ∷ []) ++ x ∷ rest) i item) (sym length_so)
+          let at : item ≡ x =
+          is ∙ ap (λ (l : List Item). get_or l n item) e ∙ ap (λ (i : ℕ). get_or ((so.front ++ so.last ∷ []) ++ x ∷ rest) i item)
+          (sym length_so)
           ∙ get_or-append_seam (so.front ++ so.last ∷ []) x rest item in
           record { after = rest; is = e ∙ ap (λ (i : Item). (so.front ++ so.last ∷ []) ++ i ∷ rest) (sym at) }
 
-  pub pack_so : (before item : Item) (pair : Bool) → before ≡ so.last → IsRight s k before pair → IsPackOf s ((so.front ++ so.last ∷ []) ++ item ∷ []) (packed_next k before item pair)
+  pub pack_so : (before item : Item) (pair : Bool) → before ≡ so.last → IsRight s k before pair
+      → IsPackOf s ((so.front ++ so.last ∷ []) ++ item ∷ []) (packed_next k before item pair)
   pack_so before item pair e right =
       subst (λ (b : Item). IsPackOf s ((so.front ++ so.last ∷ []) ++ item ∷ []) (packed_next k b item pair)) (sym e)
       (pack_grows s k so.front so.last item pair so.pack (subst (λ (b : Item). IsRight s k b pair) e right))
 
-  pub packed_more : (before item : Item) (pair : Bool) → before ≡ so.last → HasNext item → IsRight s k before pair → IsPackedSo s (n + 1) (packed_next k before item pair)
+  pub packed_more : (before item : Item) (pair : Bool) → before ≡ so.last → HasNext item → IsRight s k before pair
+      → IsPackedSo s (n + 1) (packed_next k before item pair)
   packed_more before item pair e next right =
       let one = next_takes_one k before item pair in
       record {
@@ -116,7 +130,8 @@ module _ (s : Loose) (n : ℕ) (k : Packing) (so : IsPackedSo s n k) where
       }
 
   -- Where with it one bundle too many is closed.
-  pub past_so : (before item : Item) (pair : Bool) → before ≡ so.last → HasNext item → IsRight s k before pair → length k.closed < BUNDLE_LIMIT → length (packed_next k before item pair).closed ≡ BUNDLE_LIMIT → IsFirstPast s n
+  pub past_so : (before item : Item) (pair : Bool) → before ≡ so.last → HasNext item → IsRight s k before pair
+      → length k.closed < BUNDLE_LIMIT → length (packed_next k before item pair).closed ≡ BUNDLE_LIMIT → IsFirstPast s n
   past_so before item pair e next right room full =
       let one = next_takes_one k before item pair in
       record {

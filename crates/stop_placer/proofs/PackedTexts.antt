@@ -39,7 +39,8 @@ record IsPackedAs (s : Loose) (packing : Packing) (k : Packed) : Type 0 where
   stops : NamesStops k.program (place_of (all_chunks s packing)) (all_causes s packing) k.stops
 
 packed_as : (text : List ℕ) (k : Packed) (placed : IsPlaced text k) → IsPackedAs placed.loose placed.packing k
-packed_as text k placed = record { pack = placed.pack; few = placed.few; program = placed.program; places = placed.places; stops = placed.stops }
+packed_as text k placed =
+    record { pack = placed.pack; few = placed.few; program = placed.program; places = placed.places; stops = placed.stops }
 
 one_packed : (s : Loose) (packing : Packing) (k m : Packed) → IsLoose s → IsPackedAs s packing k → IsPackedAs s packing m → k ≡ m
 one_packed s packing k m is a b = λ i. record { program = program i; places = places i; stops = stops i }
@@ -66,7 +67,8 @@ pub placed_once : OneLooseText → ReadIsLoose → OnePlaced
 placed_once one loose text k m a b =
     let other = subst (λ (t : Loose). IsPackedAs t b.packing m) (sym (one text a.loose b.loose a.reads b.reads)) (packed_as text m b) in
     let same = one_pack a.loose a.loose.items a.packing b.packing a.pack other.pack in
-    one_packed a.loose a.packing k m (loose text a.loose a.reads) (packed_as text k a) (subst (λ (q : Packing). IsPackedAs a.loose q m) (sym same) other)
+    one_packed a.loose a.packing k m (loose text a.loose a.reads) (packed_as text k a)
+    (subst (λ (q : Packing). IsPackedAs a.loose q m) (sym same) other)
 
 -- The line of the first item that begins a bundle past the limit.
 same_line : (s : Loose) (n m x y : ℕ) → n ≡ m → line_of_item s n ≡ Some x → line_of_item s m ≡ Some y → x ≡ y
@@ -80,13 +82,15 @@ one_fault_placing one fault none text e f (inr (s, reads, a)) (inr (t, also, b))
     let same = sym (one text s t reads also) in
     let number = one_first_past s a.n b.n a.past (subst (λ (u : Loose). IsFirstPast u b.n) same b.past) in
     a.is
-    ∙ ap (λ (line : ℕ). Fault line Limit) (same_line s a.n b.n a.line b.line number a.there (subst (λ (u : Loose). line_of_item u b.n ≡ Some b.line) same b.there))
+    ∙ ap (λ (line : ℕ). Fault line Limit) (same_line s a.n b.n a.line b.line number a.there
+    (subst (λ (u : Loose). line_of_item u b.n ≡ Some b.line) same b.there))
     ∙ sym b.is
 
 pub none_where_placed : OneLooseText → NoLooseFaultWhereRead → NoFaultWherePlaced
 none_where_placed one none text k e placed (inl fault) = none text placed.loose e placed.reads fault
 none_where_placed one none text k e placed (inr (s, reads, a)) =
-    none_past placed.loose placed.packing a.n placed.pack placed.few (subst (λ (u : Loose). IsFirstPast u a.n) (one text s placed.loose reads placed.reads) a.past)
+    none_past placed.loose placed.packing a.n placed.pack placed.few
+    (subst (λ (u : Loose). IsFirstPast u a.n) (one text s placed.loose reads placed.reads) a.past)
 
 pub free_where_placed : ReadIsLoose → PlacedHasNoViolation
 free_where_placed loose text k placed =
@@ -118,7 +122,8 @@ module _ (text : List ℕ) (k : Packed) (placed : IsPlaced text k) (is : IsLoose
       let room : n < length (places_of cs) = omega (arith, count, sequence_length placed.loose is) in
       (n, room, get_or_default (places_of cs) n place (first_of 0) room ∙ sym e)
 
-  filler : (place : Place) (i : Insn) → ((n : ℕ) × (n < length (sequence_of placed.loose).insns) × (place ≡ place_of cs n)) ⊎ IsFiller i → Contains (places_of cs) place ⊎ IsFiller i
+  filler : (place : Place) (i : Insn) → ((n : ℕ) × (n < length (sequence_of placed.loose).insns) × (place ≡ place_of cs n)) ⊎ IsFiller i
+      → Contains (places_of cs) place ⊎ IsFiller i
   filler place i (inl (n, inside, e)) = inl (listed place n inside e)
   filler place i (inr f) = inr f
 

@@ -32,7 +32,13 @@ has_loud (suc n) (c ∷ cs) e room = of (is_quiet c) refl e (λ e. has_loud n cs
     of false q e later = record { back = 0; below = omega arith; chunk = c; there = refl; loud = q }
     of true q e later =
         let rest = later e in
-        record { back = suc rest.back; below = (let less = rest.below in omega arith); chunk = rest.chunk; there = rest.there; loud = rest.loud }
+        record {
+          back = suc rest.back;
+          below = (let less = rest.below in omega arith);
+          chunk = rest.chunk;
+          there = rest.there;
+          loud = rest.loud;
+        }
 
 -- From each bundle back, not all of n are without a stop.
 abbrev pub NoneLong : List Chunk → Type 0
@@ -50,7 +56,8 @@ stopped_first zero c cs some e = absurd (omega arith)
 stopped_first (suc n) c cs some e = rw e refl
 
 -- With the reason for a stop, there is none too long.
-closed_by : (k : Packing) (cause : Option Cause) → are_quiet QUIET_LIMIT (chunk k.current (is_some (or_long cause (is_long k))) ∷ k.closed) ≡ false
+closed_by : (k : Packing) (cause : Option Cause) → are_quiet QUIET_LIMIT (chunk k.current (is_some (or_long cause (is_long k))) ∷ k.closed)
+    ≡ false
 closed_by k (Some cause) = stopped_first QUIET_LIMIT (chunk k.current true) k.closed (omega arith) refl
 closed_by k None = of (is_long k) refl
   where
@@ -71,13 +78,16 @@ pub closed_short : (s : Loose) (k : Packing) → IsPack s k → NoneLong k.close
 closed_short s k pack = (kept_of s ClosedAreShort (kept_each s ClosedAreShort short_kept) (λ item. tt) s.items k pack).1
 
 -- In the order of the text.
-slice_get-reverse : {X : Type 0} (xs : List X) (i j : ℕ) (x : X) → slice_get xs j ≡ Some x → i + j + 1 ≡ length xs → slice_get (reverse xs) i ≡ Some x
+slice_get-reverse : {X : Type 0} (xs : List X) (i j : ℕ) (x : X) → slice_get xs j ≡ Some x → i + j + 1 ≡ length xs
+    → slice_get (reverse xs) i ≡ Some x
 slice_get-reverse xs i j x there sum =
     let less = slice_get_within xs j x there in
     slice_get-get_or (reverse xs) i x (omega (arith, length-reverse xs))
-    ∙ ap Some (get_or-reverse xs i x (omega arith) ∙ ap (λ (n : ℕ). get_or xs n x) (let same : length xs - 1 - i ≡ j = omega arith in same) ∙ get_or_from_slice_get xs j x x there)
+    ∙ ap Some (get_or-reverse xs i x (omega arith) ∙ ap (λ (n : ℕ). get_or xs n x) (let same : length xs - 1 - i ≡ j = omega arith in same)
+    ∙ get_or_from_slice_get xs j x x there)
 
-at_reversed : (closed : List Chunk) (last : Chunk) (i j : ℕ) (c : Chunk) → slice_get closed j ≡ Some c → i + j + 1 ≡ length closed → slice_get (reverse (last ∷ closed)) i ≡ Some c
+at_reversed : (closed : List Chunk) (last : Chunk) (i j : ℕ) (c : Chunk) → slice_get closed j ≡ Some c → i + j + 1 ≡ length closed
+    → slice_get (reverse (last ∷ closed)) i ≡ Some c
 at_reversed closed last i j c there sum =
     ap (λ (l : List Chunk). slice_get l i) (reverse_more last closed)
     ∙ slice_get-append_left (reverse closed) (last ∷ []) i (omega (arith, length-reverse closed))
@@ -90,7 +100,8 @@ record IsLoudIn (cs : List Chunk) (from count : ℕ) : Type 0 where
   below : number < from + count
   loud : IsSomeAnd (slice_get cs number) (λ c. is_quiet c ≡ false)
 
-loud_in : (closed : List Chunk) (last : Chunk) (i far count : ℕ) → HasLoud count (drop far closed) → far + (i + count) ≡ length closed → IsLoudIn (reverse (last ∷ closed)) i count
+loud_in : (closed : List Chunk) (last : Chunk) (i far count : ℕ) → HasLoud count (drop far closed) → far + (i + count) ≡ length closed
+    → IsLoudIn (reverse (last ∷ closed)) i count
 loud_in closed last i far count has sum =
     let less = has.below in
     record {
@@ -98,7 +109,8 @@ loud_in closed last i far count has sum =
       above = omega arith;
       below = omega arith;
       loud = subst (λ (o : Option Chunk). IsSomeAnd o (λ c. is_quiet c ≡ false))
-          (sym (at_reversed closed last (i + count - 1 - has.back) (far + has.back) has.chunk (sym (slice_get-drop far closed has.back) ∙ has.there) (omega arith))) has.loud;
+          (sym (at_reversed closed last (i + count - 1 - has.back) (far + has.back) has.chunk
+          (sym (slice_get-drop far closed has.back) ∙ has.there) (omega arith))) has.loud;
     }
 
 -- Each stretch of n closed bundles has one that wants a stop.
@@ -107,5 +119,6 @@ pub loud_between : (closed : List Chunk) (last : Chunk) (i : ℕ) → NoneLong c
 loud_between closed last i none inside =
     let room : i + QUIET_LIMIT ≤ length closed = omega (arith, length-reverse (last ∷ closed)) in
     let far : ℕ = length closed - (i + QUIET_LIMIT) in
-    let loud = has_loud QUIET_LIMIT (drop far closed) (none_long_from far closed none (omega arith)) (omega (arith, length-drop far closed)) in
+    let loud =
+    has_loud QUIET_LIMIT (drop far closed) (none_long_from far closed none (omega arith)) (omega (arith, length-drop far closed)) in
     let found = loud_in closed last i far QUIET_LIMIT loud (omega arith) in (found.number, found.above, found.below, found.loud)

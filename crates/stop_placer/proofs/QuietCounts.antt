@@ -21,11 +21,14 @@ quiet_by_count zero cs = grind (arith, nat_tests)
 quiet_by_count (suc n) [] = grind (arith, nat_tests)
 quiet_by_count (suc n) (c ∷ cs) = of (is_quiet c) (quiet_by_count n cs)
   where
-    of : (b : Bool) → are_quiet n cs ≡ nat_le n (quiet_count cs) → (b && are_quiet n cs) ≡ nat_le (suc n) (if b then quiet_count cs + 1 else 0)
+    of : (b : Bool) → are_quiet n cs ≡ nat_le n (quiet_count cs) → (b && are_quiet n cs) ≡ nat_le (suc n)
+        (if b then quiet_count cs + 1 else 0)
     of true h = grind (arith, nat_tests)
     of false h = grind (arith, nat_tests)
 
 -- By the count of the bundles behind one without a gap.
-pub long_by_count : (n : ℕ) (k : Packing) (quiet : ℕ) → has_no_gap k.current ≡ true → quiet ≡ quiet_count k.closed → nat_le n (quiet + 1) ≡ are_quiet n (chunk k.current false ∷ k.closed)
+pub long_by_count : (n : ℕ) (k : Packing) (quiet : ℕ) → has_no_gap k.current ≡ true → quiet ≡ quiet_count k.closed
+    → nat_le n (quiet + 1) ≡ are_quiet n (chunk k.current false ∷ k.closed)
 long_by_count n k quiet without is =
-    ap (λ (m : ℕ). nat_le n (m + 1)) is ∙ ap (λ (b : Bool). nat_le n (if b then quiet_count k.closed + 1 else 0)) (sym without) ∙ sym (quiet_by_count n (chunk k.current false ∷ k.closed))
+    ap (λ (m : ℕ). nat_le n (m + 1)) is ∙ ap (λ (b : Bool). nat_le n (if b then quiet_count k.closed + 1 else 0)) (sym without)
+    ∙ sym (quiet_by_count n (chunk k.current false ∷ k.closed))

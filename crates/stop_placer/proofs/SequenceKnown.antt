@@ -16,12 +16,15 @@ use Rattle.stop_placer.specs.Known.{AreKnown}
 use Rattle.stop_placer.proofs.PackFree.{sequence_length}
 use Rattle.stop_placer.proofs.PlacesCounted.{places_counted}
 
-pub are_known : (s : Loose) (cs : List Chunk) (facts : List Known) (places : List Place) → IsLoose s → AreChunksOf s cs → KnownInTheSequence → IsSpread (sequence_of s) (program_of s cs) (place_of cs)
+pub are_known : (s : Loose) (cs : List Chunk) (facts : List Known) (places : List Place) → IsLoose s → AreChunksOf s cs → KnownInTheSequence
+    → IsSpread (sequence_of s) (program_of s cs) (place_of cs)
     → IsProgram (program_of s cs) → IsSolution (program_of s cs) facts → places ≡ places_of cs → AreKnown (sequence_of s) facts places
 unfolding place_of
 are_known s cs facts places is are law spread program solution e = record {
   count = ap (length {A = Place}) e ∙ places_counted cs s.items are.chunks ∙ sym (sequence_length s is);
   known = λ n inside.
-      subst (λ (ps : List Place). IsKnownAt (over_sequence (sequence_of s)) (first_of n) (known_at facts (slice_index_or ps n (first_of 0)))) (sym e)
-      (law (sequence_of s) (program_of s cs) (place_of cs) n (known_at facts (place_of cs n)) program spread inside (solution (place_of cs n)));
+      subst (λ (ps : List Place). IsKnownAt (over_sequence (sequence_of s)) (first_of n)
+      (known_at facts (slice_index_or ps n (first_of 0)))) (sym e)
+      (law (sequence_of s) (program_of s cs) (place_of cs) n (known_at facts (place_of cs n)) program spread inside
+      (solution (place_of cs n)));
 }

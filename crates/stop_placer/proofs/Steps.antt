@@ -24,24 +24,33 @@ IsKept s Good =
     (k : Packing) (done : List Item) (before item : Item) (pair : Bool) → IsRight s k before pair → Good k done before
     → Good (packed_next k before item pair) (done ++ item ∷ []) item
 
-pub kept_on : (s : Loose) (Good : Packing → List Item → Item → Type 0) → IsKept s Good → (k : Packing) (done : List Item) (before : Item) (items : List Item) (last : Packing)
+pub kept_on : (s : Loose) (Good : Packing → List Item → Item → Type 0) → IsKept s Good
+    → (k : Packing) (done : List Item) (before : Item) (items : List Item) (last : Packing)
     → Good k done before → GoesOnTo s k before items last → (end : Item) × Good last (done ++ items) end
-kept_on s Good kept k done before [] last good goes =
-    (before, subst (λ (l : Packing). Good l (done ++ []) before) (sym goes) (subst (λ (xs : List Item). Good k xs before) (sym (append-nil done)) good))
+kept_on s Good kept k done before [] last good goes = (
+  before,
+  subst (λ (l : Packing). Good l (done ++ []) before) (sym goes)
+      (subst (λ (xs : List Item). Good k xs before) (sym (append-nil done)) good),
+)
 kept_on s Good kept k done before (item ∷ items) last good (pair, right, goes) =
-    let rest = kept_on s Good kept (packed_next k before item pair) (done ++ item ∷ []) item items last (kept k done before item pair right good) goes in
+    let rest =
+    kept_on s Good kept (packed_next k before item pair) (done ++ item ∷ []) item items last (kept k done before item pair right good)
+    goes in
     (rest.0, subst (λ (xs : List Item). Good last xs rest.0) (append_assoc done (item ∷ []) items) rest.1)
 
 -- What holds of the first item and is kept holds of the packing.
-pub kept_of : (s : Loose) (Good : Packing → List Item → Item → Type 0) → IsKept s Good → ((item : Item) → Good (begun_with item) (item ∷ []) item)
+pub kept_of : (s : Loose) (Good : Packing → List Item → Item → Type 0) → IsKept s Good
+    → ((item : Item) → Good (begun_with item) (item ∷ []) item)
     → (items : List Item) (last : Packing) → IsPackOf s items last → (end : Item) × Good last items end
 kept_of s Good kept first [] last pack = absurd pack
 kept_of s Good kept first (item ∷ items) last pack = kept_on s Good kept (begun_with item) (item ∷ []) item items last (first item) pack
 
 -- One item more joins the current bundle, or is the first of another.
 pub record IsKeptEach (Good : Packing → List Item → Item → Type 0) : Type 0 where
-  pub joining : (k : Packing) (done : List Item) (before item : Item) (cause : Option Cause) → joins k.current before item (is_some cause) ≡ true → Good k done before → Good (joined k item cause) (done ++ item ∷ []) item
-  pub beginning : (k : Packing) (done : List Item) (before item : Item) (cause : Option Cause) → Good k done before → Good (begun k item (or_long cause (is_long k))) (done ++ item ∷ []) item
+  pub joining : (k : Packing) (done : List Item) (before item : Item) (cause : Option Cause)
+      → joins k.current before item (is_some cause) ≡ true → Good k done before → Good (joined k item cause) (done ++ item ∷ []) item
+  pub beginning : (k : Packing) (done : List Item) (before item : Item) (cause : Option Cause) → Good k done before
+      → Good (begun k item (or_long cause (is_long k))) (done ++ item ∷ []) item
 
 pub kept_each : (s : Loose) (Good : Packing → List Item → Item → Type 0) → IsKeptEach Good → IsKept s Good
 kept_each s Good each k done before item pair right good = of (joins k.current before item (is_some cause)) refl
@@ -69,5 +78,10 @@ new_cause k before item pair = of (joins k.current before item (is_some cause))
     unchanged (Some c) = refl
 
     of : (b : Bool) → HasNewCause k (by_joining b k item cause) before pair
-    of true = record { long = false; causes = subst (λ (c : Option Cause). k.causes ++ cause ∷ [] ≡ k.causes ++ c ∷ []) (sym (unchanged cause)) refl }
+    of true =
+        record {
+          long = false;
+          causes = subst (λ (c : Option Cause). k.causes ++ cause ∷ [] ≡ k.causes ++ c ∷ [])
+              (sym (unchanged cause)) refl;
+        }
     of false = record { long = is_long k; causes = refl }

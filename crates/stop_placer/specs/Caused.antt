@@ -54,8 +54,10 @@ pub record AreCaused (p : Program) (places : List Place) (causes : List (Option 
   pub there : (n : ℕ) → n < length places → IsPlaceOf p.bundles (place_in places n)
   pub rises : (m n : ℕ) → m < n → n < length places → IsBefore (place_in places m) (place_in places n)
   pub first : (place : Place) → IsPlaceOf p.bundles place → is_stopped p.bundles place ≡ true → ¬ IsBefore place (place_in places 0)
-  pub caused : (n : ℕ) (place : Place) → IsBehind places n place → IsPlaceOf p.bundles place → is_stopped p.bundles place ≡ true → (cause : Cause) × (slice_get causes n ≡ Some (Some cause))
-  pub violated : (n : ℕ) (place : Place) → IsBehind places n place → IsPlaceOf p.bundles place → is_stopped p.bundles place ≡ true → slice_get causes n ≡ Some (Some Pair)
+  pub caused : (n : ℕ) (place : Place) → IsBehind places n place → IsPlaceOf p.bundles place → is_stopped p.bundles place ≡ true
+      → (cause : Cause) × (slice_get causes n ≡ Some (Some cause))
+  pub violated : (n : ℕ) (place : Place) → IsBehind places n place → IsPlaceOf p.bundles place → is_stopped p.bundles place ≡ true
+      → slice_get causes n ≡ Some (Some Pair)
       → (v : Violation) × ViolatesIn (over_program p) (without_stop p place) v
 
 -- The n-th instruction is the last before the place, or the first of all.

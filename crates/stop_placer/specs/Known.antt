@@ -9,4 +9,5 @@ use Rattle.group_checker.specs.Windows.{IsKnownAt}
 -- What is known at an instruction's place is known before it in the sequence.
 pub record AreKnown (sequence : InsnSequence) (facts : List Known) (places : List Place) : Type 0 where
   pub count : length places ≡ length sequence.insns
-  pub known : (n : ℕ) → n < length sequence.insns → IsKnownAt (over_sequence sequence) (first_of n) (known_at facts (slice_index_or places n (first_of 0)))
+  pub known : (n : ℕ) → n < length sequence.insns → IsKnownAt (over_sequence sequence) (first_of n)
+      (known_at facts (slice_index_or places n (first_of 0)))

@@ -41,7 +41,8 @@ pub record KeepsText (text : List ℕ) (k : Packed) : Type 0 where
   pub reads : ReadsLoose text loose
   pub count : length k.places ≡ length loose.items
   pub rises : (m n : ℕ) → m < n → n < length k.places → IsBefore (nth_place k m) (nth_place k n)
-  pub kept : (n : ℕ) → n < length k.places → insn_at k.program.bundles (nth_place k n) ≡ slice_get (targeted (λ m. (nth_place k m).bundle) loose) n
+  pub kept : (n : ℕ) → n < length k.places → insn_at k.program.bundles (nth_place k n)
+      ≡ slice_get (targeted (λ m. (nth_place k m).bundle) loose) n
   pub fillers : (place : Place) (i : Insn) → insn_at k.program.bundles place ≡ Some i → Contains k.places place ⊎ IsFiller i
 
 abbrev pub PlacedKeepsText : Type 0

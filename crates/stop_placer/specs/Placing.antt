@@ -49,7 +49,8 @@ pub record IsExplained (p : Program) (at : ℕ → Place) (causes : List (Option
 -- Each stop of the program is named once, in order, with its reason.
 pub record NamesStops (p : Program) (at : ℕ → Place) (causes : List (Option Cause)) (stops : List StopWhy) : Type 0 where
   pub rises : (m n : ℕ) (s t : StopWhy) → slice_get stops m ≡ Some s → slice_get stops n ≡ Some t → m < n → IsBefore s.after t.after
-  pub has : (place : Place) → IsPlaceOf p.bundles place → is_stopped p.bundles place ≡ true → Contains (map (λ (s : StopWhy). s.after) stops) place
+  pub has : (place : Place) → IsPlaceOf p.bundles place → is_stopped p.bundles place ≡ true
+      → Contains (map (λ (s : StopWhy). s.after) stops) place
   pub only : (s : StopWhy) → Contains stops s → IsPlaceOf p.bundles s.after × (is_stopped p.bundles s.after ≡ true)
   pub explained : (s : StopWhy) → Contains stops s → IsExplained p at causes s
 

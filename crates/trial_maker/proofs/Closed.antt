@@ -37,7 +37,8 @@ ends_at_2 bundles closed place is h =
     inl (subst (λ (o : Option Bundle). IsSomeAnd o (λ b. IsStopAfter b.template b.slots place.slot)) (sym l.is) stop)
 
 -- The slot after one that doesn't end a run is of the same bundle.
-same_bundle : (bundles : List Bundle) → AreClosed bundles → (place next : Place) → IsPlaceOf bundles place → ¬ EndsRun bundles place → IsNext bundles place next → place.slot < next.slot
+same_bundle : (bundles : List Bundle) → AreClosed bundles → (place next : Place) → IsPlaceOf bundles place → ¬ EndsRun bundles place
+    → IsNext bundles place next → place.slot < next.slot
 same_bundle bundles closed place next is on follows = of (cases_lt place.slot 2) follows.after
   where
     of : (place.slot < 2) ⊎ (2 ≤ place.slot) → IsBefore place next → place.slot < next.slot
@@ -50,7 +51,8 @@ same_bundle bundles closed place next is on follows = of (cases_lt place.slot 2)
         absurd (follows.first q (is_place bundles q l.bundle l.is (omega arith)) (inr (refl, omega arith)) (inl later))
 
 -- At most two slots of a run stand before another.
-few_before : (bundles : List Bundle) → AreClosed bundles → (slots : List Place) (place : Place) → StandBefore bundles slots place → length slots ≤ place.slot
+few_before : (bundles : List Bundle) → AreClosed bundles → (slots : List Place) (place : Place) → StandBefore bundles slots place
+    → length slots ≤ place.slot
 few_before bundles closed [] place stand = omega arith
 few_before bundles closed (p ∷ ps) place stand =
     omega (arith, few_before bundles closed ps p stand.3, same_bundle bundles closed p place stand.0 stand.2 stand.1)
@@ -64,15 +66,18 @@ none_inside : (bundles : List Bundle) → AreClosed bundles → EachPlace bundle
 unfolding insn_at
 none_inside bundles closed place is = of_bundle (slice_get bundles place.bundle) (closed place.bundle)
   where
-    of_insn : (o : Option Insn) → IfSome o (λ i. displacement i.op ≡ None) → IfSome o (λ i. IfSome (displacement i.op) (IsBundleAt (length bundles) place.bundle))
+    of_insn : (o : Option Insn) → IfSome o (λ i. displacement i.op ≡ None)
+        → IfSome o (λ i. IfSome (displacement i.op) (IsBundleAt (length bundles) place.bundle))
     of_insn None free = tt
     of_insn (Some i) free = rw free tt
 
-    of_bundle : (o : Option Bundle) → IfSome o IsClosed → IfSome (bundle_insn o place.slot) (λ i. IfSome (displacement i.op) (IsBundleAt (length bundles) place.bundle))
+    of_bundle : (o : Option Bundle) → IfSome o IsClosed → IfSome (bundle_insn o place.slot)
+        (λ i. IfSome (displacement i.op) (IsBundleAt (length bundles) place.bundle))
     of_bundle None c = tt
     of_bundle (Some b) c = of_insn (slot_insn b.slots place.slot) (c.free place.slot)
 
-pub closed_program : (bundles : List Bundle) → AreClosed bundles → 1 ≤ length bundles → length bundles ≤ BUNDLE_LIMIT → IsProgram (record { bundles = bundles; entries = []; bytes = []; relations = [] })
+pub closed_program : (bundles : List Bundle) → AreClosed bundles → 1 ≤ length bundles → length bundles ≤ BUNDLE_LIMIT
+    → IsProgram (record { bundles = bundles; entries = []; bytes = []; relations = [] })
 closed_program bundles closed some most = record {
   fit = λ n. fit (slice_get bundles n) (closed n);
   counts = record { some = some; bundles = most; entries = omega arith; bytes = omega arith; words = refl; relations = omega arith };

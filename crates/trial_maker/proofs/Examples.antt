@@ -22,6 +22,8 @@ second_draws = refl
 -- cmp.lt p6,p7=r15,r15; adds r16=3809,r8; nop.i 0;;
 -- nop.m 0; (p6) and r12=r13,r21; (p7) sub r12=r11,r19;;
 -- nop.m 0; nop.i 0; break.i 0;;
-three_bundles : (trial_program 0 3).bundles ≡ mii (always (Cmp false Lt Normal 6 7 15 15)) (always (AddImm14 false 16 (pos 3809) 8)) (always (Nop I 0)) ∷ mii (always (Nop M 0)) (record { qp = 6; op = Alu And 12 13 21 }) (record { qp = 7; op = Alu Sub 12 11 19 }) ∷ mii (always (Nop M 0)) (always (Nop I 0)) (always (Break I 0)) ∷ []
+three_bundles : (trial_program 0 3).bundles ≡ mii (always (Cmp false Lt Normal 6 7 15 15)) (always (AddImm14 false 16 (pos 3809) 8))
+    (always (Nop I 0)) ∷ mii (always (Nop M 0)) (record { qp = 6; op = Alu And 12 13 21 })
+    (record { qp = 7; op = Alu Sub 12 11 19 }) ∷ mii (always (Nop M 0)) (always (Nop I 0)) (always (Break I 0)) ∷ []
 unfolding first_bundles state_before
 three_bundles = refl

@@ -15,7 +15,8 @@ use Rattle.ia_program.specs.Bundles.{IsBundle}
 use Rattle.trial_maker.specs.declared.draws.Trio.{Trio}
 use Rattle.trial_maker.specs.Trials.{nop, compare, addition, operation, operation_of, mii, last_bundle}
 
-alu_listed : (qp r1 r2 r3 : ℕ) (f : AluFn) → qp < 64 → r1 ≢ 0 → r1 < 128 → r2 < 128 → r3 < 128 → IsListedA (record { qp = qp; op = Alu f r1 r2 r3 })
+alu_listed : (qp r1 r2 r3 : ℕ) (f : AluFn) → qp < 64 → r1 ≢ 0 → r1 < 128 → r2 < 128 → r3 < 128
+    → IsListedA (record { qp = qp; op = Alu f r1 r2 r3 })
 unfolding rows_a listed
 alu_listed qp r1 r2 r3 f q some a b c = of_row_a _ (grind arith)
 
@@ -41,8 +42,12 @@ sets_fit number draws = (
 )
 
 pub changes_fit : (draws : Trio) → IsBundle (mii (nop M) (operation 6 draws.first draws.second) (operation 7 draws.first draws.third))
-changes_fit draws =
-    (nop_m_fits, operation_fits 6 draws.first draws.second 1 (lit< tt) (lit< tt), operation_fits 7 draws.first draws.third 2 (lit< tt) (lit< tt), λ e. cc)
+changes_fit draws = (
+  nop_m_fits,
+  operation_fits 6 draws.first draws.second 1 (lit< tt) (lit< tt),
+  operation_fits 7 draws.first draws.third 2 (lit< tt) (lit< tt),
+  λ e. cc,
+)
 
 pub last_fits : IsBundle last_bundle
 unfolding rows_i listed

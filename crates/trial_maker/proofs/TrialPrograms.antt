@@ -16,7 +16,8 @@ use Rattle.trial_maker.proofs.Fitting.{sets_fit, changes_fit, last_fits}
 use Rattle.trial_maker.proofs.Closed.{IsClosed, AreClosed, closed_program}
 
 -- A bundle of M, I and I with a stop at its end is closed, if its instructions fit and have no target.
-mii_closed : (a b c : Insn) → IsBundle (mii a b c) → displacement a.op ≡ None → displacement b.op ≡ None → displacement c.op ≡ None → IsClosed (mii a b c)
+mii_closed : (a b c : Insn) → IsBundle (mii a b c) → displacement a.op ≡ None → displacement b.op ≡ None → displacement c.op ≡ None
+    → IsClosed (mii a b c)
 mii_closed a b c fit free_a free_b free_c =
     record { fit = fit; three = refl; stop = search rules; free = λ slot. grind (arith, nat_tests) }
 
@@ -26,13 +27,15 @@ either false x y p q = q
 
 bundle_closed : (number : ℕ) (draws : Trio) → IsClosed (bundle_of number draws)
 bundle_closed number draws =
-    either (number % 4 == 0) _ _ (mii_closed _ _ _ (sets_fit number draws) refl refl refl) (mii_closed _ _ _ (changes_fit draws) refl refl refl)
+    either (number % 4 == 0) _ _ (mii_closed _ _ _ (sets_fit number draws) refl refl refl)
+    (mii_closed _ _ _ (changes_fit draws) refl refl refl)
 
 last_closed : IsClosed last_bundle
 last_closed = mii_closed _ _ _ last_fits refl refl refl
 
 -- Closed bundles of numbers, and one more.
-all_closed : (f : ℕ → Bundle) → ((n : ℕ) → IsClosed (f n)) → (last : Bundle) → IsClosed last → (from count : ℕ) → AreClosed (map f (range_with_len from count) ++ last ∷ [])
+all_closed : (f : ℕ → Bundle) → ((n : ℕ) → IsClosed (f n)) → (last : Bundle) → IsClosed last → (from count : ℕ)
+    → AreClosed (map f (range_with_len from count) ++ last ∷ [])
 all_closed f each last closed from zero zero = closed
 all_closed f each last closed from zero (suc n) = tt
 all_closed f each last closed from (suc count) zero = each from
@@ -43,7 +46,8 @@ pub one_state_more : (seed number : ℕ) → state_before seed (number + 1) ≡ 
 unfolding state_before
 one_state_more seed number = rw add-one refl
 
-pub one_bundle_more : (seed number : ℕ) → first_bundles seed (number + 1) ≡ first_bundles seed number ++ bundle_of number (draws_of seed number) ∷ []
+pub one_bundle_more : (seed number : ℕ) → first_bundles seed (number + 1)
+    ≡ first_bundles seed number ++ bundle_of number (draws_of seed number) ∷ []
 unfolding first_bundles
 one_bundle_more seed number = map-range_with_len_more (λ (n : ℕ). bundle_of n (draws_of seed n)) 0 number number (omega arith)
 
@@ -54,4 +58,5 @@ trial_is_program seed bundles some most =
     let count = length-map-range_with_len f 0 (bundles - 1) in
     let all = first_bundles seed (bundles - 1) ++ last_bundle ∷ [] in
     let size : length all ≡ bundles = simp (length-append, count) (omega arith) in
-    closed_program all (all_closed f (λ number. bundle_closed number (draws_of seed number)) last_bundle last_closed 0 (bundles - 1)) (omega (arith, size)) (omega (arith, size))
+    closed_program all (all_closed f (λ number. bundle_closed number (draws_of seed number)) last_bundle last_closed 0 (bundles - 1))
+    (omega (arith, size)) (omega (arith, size))

@@ -35,12 +35,15 @@ not_full_of : (w : WatchState) → AwaitsGroups w → is_full w ≡ false
 not_full_of w room = grind (arith, room)
 
 -- Those that are left after a group stay at the end where they would have stayed from the beginning.
-stay_on : (e : GroupEvent) (events : List GroupEvent) (ws : List Numbered) → staying events (states (left_after e ws)) ≡ staying (e ∷ events) (states ws)
+stay_on : (e : GroupEvent) (events : List GroupEvent) (ws : List Numbered)
+    → staying events (states (left_after e ws)) ≡ staying (e ∷ events) (states ws)
 stay_on e events [] = refl
 stay_on e events (w ∷ ws) =
-    elim (is_full (after w.1 e)) as (λ t. is_full (after w.1 e) ≡ t → staying events (states (left_after e (w ∷ ws))) ≡ staying (e ∷ events) (states (w ∷ ws))) [
+    elim (is_full (after w.1 e)) as (λ t. is_full (after w.1 e) ≡ t
+    → staying events (states (left_after e (w ∷ ws))) ≡ staying (e ∷ events) (states (w ∷ ws))) [
       | true ↦ (λ full. rw (full, stays_full events (after w.1 e) full) (stay_on e events ws))
-      | false ↦ (λ more. rw more (ap (λ rest. cond (not (is_full (after_all events (after w.1 e)))) (after_all events (after w.1 e) ∷ rest) rest) (stay_on e events ws)))
+      | false ↦ (λ more. rw more (ap (λ rest. cond (not (is_full (after_all events (after w.1 e))))
+          (after_all events (after w.1 e) ∷ rest) rest) (stay_on e events ws)))
     ]
     refl
 
@@ -62,7 +65,8 @@ left_has_room e (w ∷ ws) =
 
 all_stay : (ws : List WatchState) → All AwaitsGroups ws → staying [] ws ≡ ws
 all_stay [] room = refl
-all_stay (w ∷ ws) room = rw (not_full_of w (room 0 w (omega arith))) (ap (λ xs. w ∷ xs) (all_stay ws (λ k d below. room (suc k) d (omega (arith, below)))))
+all_stay (w ∷ ws) room =
+    rw (not_full_of w (room 0 w (omega arith))) (ap (λ xs. w ∷ xs) (all_stay ws (λ k d below. room (suc k) d (omega (arith, below)))))
 
 -- Where those that are left after a group are cut short, all are.
 one_later : (e : GroupEvent) (events : List GroupEvent) (count : ℕ) (w : WatchState) (left ws now : List WatchState)
@@ -75,9 +79,11 @@ amid_later : (e : GroupEvent) (events : List GroupEvent) (count : ℕ) (ws : Lis
     → IsAmidGroup events count (states (left_after e ws)) now → IsAmidGroup (e ∷ events) (suc count) (states ws) now
 amid_later e events count [] now = λ a. a
 amid_later e events count (w ∷ ws) now =
-    elim (is_full (after w.1 e)) as (λ t. is_full (after w.1 e) ≡ t → IsAmidGroup events count (states (left_after e (w ∷ ws))) now → IsAmidGroup (e ∷ events) (suc count) (states (w ∷ ws)) now) [
+    elim (is_full (after w.1 e)) as (λ t. is_full (after w.1 e) ≡ t → IsAmidGroup events count (states (left_after e (w ∷ ws))) now
+    → IsAmidGroup (e ∷ events) (suc count) (states (w ∷ ws)) now) [
       | true ↦ (λ full a. inl (stays_full (take (suc count) events) (after w.1 e) full, amid_later e events count ws now (rw full at a)))
-      | false ↦ (λ more a. one_later e events count w.1 (states (left_after e ws)) (states ws) now (amid_later e events count ws) (rw more at a))
+      | false ↦ (λ more a. one_later e events count w.1 (states (left_after e ws)) (states ws) now (amid_later e events count ws)
+          (rw more at a))
     ]
     refl
 
@@ -88,13 +94,15 @@ unchanged events ws = (0, all ws)
     all [] = refl
     all (w ∷ ws) = inr (w, ws, refl, inl refl, all ws)
 
-amid_first : (e : GroupEvent) (events : List GroupEvent) (ws now : List WatchState) → IsAmidGroup (e ∷ []) 0 ws now → IsAmidGroup (e ∷ events) 0 ws now
+amid_first : (e : GroupEvent) (events : List GroupEvent) (ws now : List WatchState) → IsAmidGroup (e ∷ []) 0 ws now
+    → IsAmidGroup (e ∷ events) 0 ws now
 amid_first e events [] now a = a
 amid_first e events (w ∷ ws) now (inl a) = inl (a.0, amid_first e events ws now a.1)
 amid_first e events (w ∷ ws) now (inr a) = inr (a.0, a.1, a.2, a.3, amid_first e events ws a.1 a.4)
 
 -- The list that was handed in, what it reports over all groups of a run, and the groups that are still to come.
-pub record IsWatched {B : Type 0} (seen : B → WatchState) (all : List GroupEvent) (old : List WatchState) (events : List GroupEvent) (text numbers : List ℕ) (list : List B) : Type 0 where
+pub record IsWatched {B : Type 0} (seen : B → WatchState) (all : List GroupEvent) (old : List WatchState) (events : List GroupEvent)
+    (text numbers : List ℕ) (list : List B) : Type 0 where
   pub as_many : length numbers ≡ length list
   pub room : All AwaitsGroups (map seen list)
   pub reported : text ++ reports events (zip numbers (map seen list)) ≡ reports all (numbered old)
@@ -102,7 +110,8 @@ pub record IsWatched {B : Type 0} (seen : B → WatchState) (all : List GroupEve
   pub cut : (now : List WatchState) → IsCutShort events (map seen list) now → IsCutShort all old now
 
 pub at_beginning : {B : Type 0} (seen : B → WatchState) (all : List GroupEvent) (text numbers : List ℕ) (list : List B)
-    → All AwaitsGroups (map seen list) → text ≡ [] → numbers ≡ range_with_len 0 (length list) → IsWatched seen all (map seen list) all text numbers list
+    → All AwaitsGroups (map seen list) → text ≡ [] → numbers ≡ range_with_len 0 (length list)
+    → IsWatched seen all (map seen list) all text numbers list
 at_beginning seen all text numbers list room none from_0 =
     record {
       as_many = ap length from_0 ∙ length-range_with_len 0 (length list);
@@ -116,26 +125,35 @@ at_beginning seen all text numbers list room none from_0 =
     numbers_are = ap (λ n. zip (range_with_len 0 n) (map seen list)) (sym (length-map list seen)) ∙ zip_is_numbered 0 (map seen list)
 
 -- What those that are left have seen.
-left_are : {B : Type 0} (seen : B → WatchState) (e : GroupEvent) (ws : List Numbered) (numbers : List ℕ) (list : List B) → length numbers ≡ length list → zip numbers (map seen list) ≡ left_after e ws
+left_are : {B : Type 0} (seen : B → WatchState) (e : GroupEvent) (ws : List Numbered) (numbers : List ℕ) (list : List B)
+    → length numbers ≡ length list → zip numbers (map seen list) ≡ left_after e ws
     → map seen list ≡ states (left_after e ws)
-left_are seen e ws numbers list as_many left = sym (states_of_zip numbers (map seen list) (as_many ∙ sym (length-map list seen))) ∙ ap states left
+left_are seen e ws numbers list as_many left =
+    sym (states_of_zip numbers (map seen list) (as_many ∙ sym (length-map list seen))) ∙ ap states left
 
 -- The watchers that are left are still to see groups.
-pub still_room : {B : Type 0} (seen : B → WatchState) (e : GroupEvent) (ws : List Numbered) (numbers : List ℕ) (list : List B) → length numbers ≡ length list → zip numbers (map seen list) ≡ left_after e ws → All AwaitsGroups (map seen list)
-still_room seen e ws numbers list as_many left = subst (All AwaitsGroups) (sym (left_are seen e ws numbers list as_many left)) (left_has_room e ws)
+pub still_room : {B : Type 0} (seen : B → WatchState) (e : GroupEvent) (ws : List Numbered) (numbers : List ℕ) (list : List B)
+    → length numbers ≡ length list → zip numbers (map seen list) ≡ left_after e ws → All AwaitsGroups (map seen list)
+still_room seen e ws numbers list as_many left =
+    subst (All AwaitsGroups) (sym (left_are seen e ws numbers list as_many left)) (left_has_room e ws)
 
 -- One group further.
-pub one_further : {B : Type 0} (seen : B → WatchState) (all : List GroupEvent) (old : List WatchState) (e : GroupEvent) (events : List GroupEvent) (text numbers : List ℕ) (list : List B) (text_1 numbers_1 : List ℕ) (list_1 : List B)
-    → IsWatched seen all old (e ∷ events) text numbers list → length numbers_1 ≡ length list_1 → text_1 ≡ text ++ reports_after e (zip numbers (map seen list)) → zip numbers_1 (map seen list_1) ≡ left_after e (zip numbers (map seen list))
+pub one_further : {B : Type 0} (seen : B → WatchState) (all : List GroupEvent) (old : List WatchState) (e : GroupEvent)
+    (events : List GroupEvent) (text numbers : List ℕ) (list : List B) (text_1 numbers_1 : List ℕ) (list_1 : List B)
+    → IsWatched seen all old (e ∷ events) text numbers list → length numbers_1 ≡ length list_1
+    → text_1 ≡ text ++ reports_after e (zip numbers (map seen list))
+    → zip numbers_1 (map seen list_1) ≡ left_after e (zip numbers (map seen list))
     → IsWatched seen all old events text_1 numbers_1 list_1
 one_further seen all old e events text numbers list text_1 numbers_1 list_1 w as_many reported left =
-    let before : states (zip numbers (map seen list)) ≡ map seen list = states_of_zip numbers (map seen list) (w.as_many ∙ sym (length-map list seen)) in
+    let before : states (zip numbers (map seen list)) ≡ map seen list =
+    states_of_zip numbers (map seen list) (w.as_many ∙ sym (length-map list seen)) in
     let now = left_are seen e (zip numbers (map seen list)) numbers_1 list_1 as_many left in
     record {
       as_many = as_many;
       room = still_room seen e (zip numbers (map seen list)) numbers_1 list_1 as_many left;
       reported =
-          rw (reported, left) (append_assoc text (reports_after e (zip numbers (map seen list))) (reports events (left_after e (zip numbers (map seen list)))) ∙ w.reported);
+          rw (reported, left) (append_assoc text (reports_after e (zip numbers (map seen list)))
+          (reports events (left_after e (zip numbers (map seen list)))) ∙ w.reported);
       stay = ap (staying events) now ∙ stay_on e events (zip numbers (map seen list)) ∙ ap (staying (e ∷ events)) before ∙ w.stay;
       cut = λ later c. w.cut later (
         suc c.0,
@@ -145,18 +163,21 @@ one_further seen all old e events text numbers list text_1 numbers_1 list_1 w as
     }
 
 -- Where the group couldn't be shown to all.
-pub cut_amid : {B : Type 0} (seen : B → WatchState) (all : List GroupEvent) (old : List WatchState) (e : GroupEvent) (events : List GroupEvent) (text numbers : List ℕ) (list : List B) (now : List WatchState)
+pub cut_amid : {B : Type 0} (seen : B → WatchState) (all : List GroupEvent) (old : List WatchState) (e : GroupEvent)
+    (events : List GroupEvent) (text numbers : List ℕ) (list : List B) (now : List WatchState)
     → IsWatched seen all old (e ∷ events) text numbers list → IsAmidGroup (e ∷ []) 0 (map seen list) now → IsCutShort all old now
 cut_amid seen all old e events text numbers list now w a = w.cut now (0, amid_first e events (map seen list) now a)
 
 -- Where it was given up between two groups.
-pub cut_between : {B : Type 0} (seen : B → WatchState) (all : List GroupEvent) (old : List WatchState) (events : List GroupEvent) (text numbers : List ℕ) (list : List B)
+pub cut_between : {B : Type 0} (seen : B → WatchState) (all : List GroupEvent) (old : List WatchState) (events : List GroupEvent)
+    (text numbers : List ℕ) (list : List B)
     → IsWatched seen all old events text numbers list → IsCutShort all old (map seen list)
 cut_between seen all old events text numbers list w = w.cut (map seen list) (unchanged events (map seen list))
 
 -- Where no group is to come.
 pub at_last : {B : Type 0} (seen : B → WatchState) (all : List GroupEvent) (old : List WatchState) (text numbers : List ℕ) (list : List B)
-    → IsWatched seen all old [] text numbers list → (text ++ flat_map numbered_report (zip numbers (map seen list)) ≡ reports all (numbered old)) × (map seen list ≡ staying all old)
+    → IsWatched seen all old [] text numbers list → (text ++ flat_map numbered_report (zip numbers (map seen list))
+    ≡ reports all (numbered old)) × (map seen list ≡ staying all old)
 at_last seen all old text numbers list w = (w.reported, sym (all_stay (map seen list) w.room) ∙ w.stay)
 
 take_more : {A : Type 0} (xs : List A) → take (suc (length xs)) xs ≡ xs
@@ -167,9 +188,16 @@ take_more (x ∷ xs) = ap (λ ys. x ∷ ys) (take_more xs)
 amid_last : (events : List GroupEvent) (ws : List WatchState) → IsAmidGroup events (length events) ws (staying events ws)
 amid_last events [] = refl
 amid_last events (w ∷ ws) =
-    elim (is_full (after_all events w)) as (λ t. is_full (after_all events w) ≡ t → IsAmidGroup events (length events) (w ∷ ws) (staying events (w ∷ ws))) [
+    elim (is_full (after_all events w)) as (λ t. is_full (after_all events w) ≡ t
+    → IsAmidGroup events (length events) (w ∷ ws) (staying events (w ∷ ws))) [
       | true ↦ (λ full. rw full (inl (ap (λ seen. is_full (after_all seen w)) (take_more events) ∙ full, amid_last events ws)))
-      | false ↦ (λ more. rw more (inr (after_all events w, staying events ws, refl, inl (ap (λ seen. after_all seen w) (sym (take-length events))), amid_last events ws)))
+      | false ↦ (λ more. rw more (inr (
+        after_all events w,
+        staying events ws,
+        refl,
+        inl (ap (λ seen. after_all seen w) (sym (take-length events))),
+        amid_last events ws,
+      )))
     ]
     refl
 

@@ -18,7 +18,9 @@ unfolding line_count
 within byte text plain = rw plain
 
 digit_in_line : (d : ℕ) → digit_glyph false d == 10 ≡ false
-digit_in_line d = elim (nat_lt d 10) as (λ t. cond t (48 + d) (87 + d) == 10 ≡ false) [ true ↦ ne_eqb (48 + d) 10 (λ e. omega (arith, e)) | false ↦ ne_eqb (87 + d) 10 (λ e. omega (arith, e)) ]
+digit_in_line d =
+    elim (nat_lt d 10) as (λ t. cond t (48 + d) (87 + d) == 10 ≡ false)
+    [ true ↦ ne_eqb (48 + d) 10 (λ e. omega (arith, e)) | false ↦ ne_eqb (87 + d) 10 (λ e. omega (arith, e)) ]
 
 digits_in_line : (k n : ℕ) (text : List ℕ) → line_count (digits_onto k 10 false n text) ≡ line_count text
 digits_in_line zero n text = refl

@@ -18,8 +18,10 @@ pub record IsShownTo {B : Type 0} (seen : B → WatchState) (e : GroupEvent) (te
   pub as_many : length numbers_left ≡ length left
   pub room : All AwaitsGroups (map seen left)
   pub reported : text ++ reports_after e (zip numbers_left (map seen left)) ≡ text_0 ++ reports_after e (zip numbers_0 (map seen list_0))
-  pub stay : zip numbers_before (map seen before) ++ left_after e (zip numbers_left (map seen left)) ≡ left_after e (zip numbers_0 (map seen list_0))
-  pub amid : (now : List WatchState) → IsAmidGroup (e ∷ []) 0 (map seen left) now → IsAmidGroup (e ∷ []) 0 (map seen list_0) (map seen before ++ now)
+  pub stay : zip numbers_before (map seen before) ++ left_after e (zip numbers_left (map seen left))
+      ≡ left_after e (zip numbers_0 (map seen list_0))
+  pub amid : (now : List WatchState) → IsAmidGroup (e ∷ []) 0 (map seen left) now
+      → IsAmidGroup (e ∷ []) 0 (map seen list_0) (map seen before ++ now)
 
 -- The same of the list and its numbers, whose parts meet at a place.
 pub record IsShown {B : Type 0} (seen : B → WatchState) (e : GroupEvent) (text_0 numbers_0 : List ℕ) (list_0 : List B)
@@ -54,7 +56,8 @@ stays_is w = elim (is_full w) as (λ t. (if t then Full else Stay) ≡ Stay → 
 full_is : (w : WatchState) → keep_of w ≡ Full → is_full w ≡ true
 full_is w = elim (is_full w) as (λ t. (if t then Full else Stay) ≡ Full → t ≡ true) [ true ↦ (λ e. refl) | false ↦ (λ e. cc) ]
 
-zip_end : {A B : Type 0} (xs : List A) (ys : List B) (x : A) (y : B) → length xs ≡ length ys → zip (xs ++ x ∷ []) (ys ++ y ∷ []) ≡ zip xs ys ++ (x, y) ∷ []
+zip_end : {A B : Type 0} (xs : List A) (ys : List B) (x : A) (y : B) → length xs ≡ length ys
+    → zip (xs ++ x ∷ []) (ys ++ y ∷ []) ≡ zip xs ys ++ (x, y) ∷ []
 zip_end [] [] x y same = refl
 zip_end [] (b ∷ ys) x y same = cc
 zip_end (a ∷ xs) [] x y same = cc
@@ -64,31 +67,41 @@ tail_has_room : (w : WatchState) (ws : List WatchState) → All AwaitsGroups (w 
 tail_has_room w ws room k d below = room (suc k) d (omega (arith, below))
 
 -- One that isn't full stays where it is, and has seen the group.
-stays : {B : Type 0} (seen : B → WatchState) (e : GroupEvent) (text_0 numbers_0 : List ℕ) (list_0 : List B) (text numbers_before : List ℕ) (number : ℕ) (numbers_left : List ℕ) (before : List B) (old now : B) (left : List B)
-    → IsShownTo seen e text_0 numbers_0 list_0 text numbers_before (number ∷ numbers_left) before (old ∷ left) → seen now ≡ after (seen old) e → is_full (after (seen old) e) ≡ false
+stays : {B : Type 0} (seen : B → WatchState) (e : GroupEvent) (text_0 numbers_0 : List ℕ) (list_0 : List B) (text numbers_before : List ℕ)
+    (number : ℕ) (numbers_left : List ℕ) (before : List B) (old now : B) (left : List B)
+    → IsShownTo seen e text_0 numbers_0 list_0 text numbers_before (number ∷ numbers_left) before (old ∷ left)
+    → seen now ≡ after (seen old) e → is_full (after (seen old) e) ≡ false
     → IsShownTo seen e text_0 numbers_0 list_0 text (numbers_before ++ number ∷ []) numbers_left (before ++ now ∷ []) left
 stays seen e text_0 numbers_0 list_0 text nb n nl before old now left s is more =
-    let mapped : map seen (before ++ now ∷ []) ≡ map seen before ++ after (seen old) e ∷ [] = map-append seen before (now ∷ []) ∙ ap (λ w. map seen before ++ w ∷ []) is in
+    let mapped : map seen (before ++ now ∷ []) ≡ map seen before ++ after (seen old) e ∷ [] =
+    map-append seen before (now ∷ []) ∙ ap (λ w. map seen before ++ w ∷ []) is in
     let fronts : zip (nb ++ n ∷ []) (map seen (before ++ now ∷ [])) ≡ zip nb (map seen before) ++ (n, after (seen old) e) ∷ [] =
-    ap (zip (nb ++ n ∷ [])) mapped ∙ zip_end nb (map seen before) n (after (seen old) e) (s.as_many_before ∙ sym (length-map before seen)) in
-    let rest : left_after e (zip (n ∷ nl) (map seen (old ∷ left))) ≡ (n, after (seen old) e) ∷ left_after e (zip nl (map seen left)) = rw more refl in
+    ap (zip (nb ++ n ∷ [])) mapped ∙ zip_end nb (map seen before) n (after (seen old) e)
+    (s.as_many_before ∙ sym (length-map before seen)) in
+    let rest : left_after e (zip (n ∷ nl) (map seen (old ∷ left))) ≡ (n, after (seen old) e) ∷ left_after e (zip nl (map seen left)) =
+    rw more refl in
     record {
       as_many_before = length-append nb (n ∷ []) ∙ ap (λ k. k + 1) s.as_many_before ∙ sym (length-append before (now ∷ []));
       as_many = omega (arith, s.as_many);
       room = tail_has_room (seen old) (map seen left) s.room;
       reported = rw more at s.reported;
       stay =
-          ap (λ zs. zs ++ left_after e (zip nl (map seen left))) fronts ∙ append_assoc (zip nb (map seen before)) ((n, after (seen old) e) ∷ []) (left_after e (zip nl (map seen left)))
+          ap (λ zs. zs ++ left_after e (zip nl (map seen left))) fronts
+          ∙ append_assoc (zip nb (map seen before)) ((n, after (seen old) e) ∷ []) (left_after e (zip nl (map seen left)))
           ∙ ap (λ zs. zip nb (map seen before) ++ zs) (sym rest) ∙ s.stay;
       amid = λ later a.
-          subst (IsAmidGroup (e ∷ []) 0 (map seen list_0)) (sym (append_assoc (map seen before) (after (seen old) e ∷ []) later) ∙ ap (λ ws. ws ++ later) (sym mapped))
+          subst (IsAmidGroup (e ∷ []) 0 (map seen list_0)) (sym (append_assoc (map seen before) (after (seen old) e ∷ []) later)
+          ∙ ap (λ ws. ws ++ later) (sym mapped))
           (s.amid (after (seen old) e ∷ later) (inr (after (seen old) e, later, refl, inr refl, a)));
     }
 
 -- One that is full reports and is gone.
-leaves : {B : Type 0} (seen : B → WatchState) (e : GroupEvent) (text_0 numbers_0 : List ℕ) (list_0 : List B) (text numbers_before : List ℕ) (number : ℕ) (numbers_left : List ℕ) (before : List B) (old : B) (left : List B)
-    → IsShownTo seen e text_0 numbers_0 list_0 text numbers_before (number ∷ numbers_left) before (old ∷ left) → is_full (after (seen old) e) ≡ true
-    → IsShownTo seen e text_0 numbers_0 list_0 (text ++ numbered_report (number, after (seen old) e)) numbers_before numbers_left before left
+leaves : {B : Type 0} (seen : B → WatchState) (e : GroupEvent) (text_0 numbers_0 : List ℕ) (list_0 : List B) (text numbers_before : List ℕ)
+    (number : ℕ) (numbers_left : List ℕ) (before : List B) (old : B) (left : List B)
+    → IsShownTo seen e text_0 numbers_0 list_0 text numbers_before (number ∷ numbers_left) before (old ∷ left)
+    → is_full (after (seen old) e) ≡ true
+    → IsShownTo seen e text_0 numbers_0 list_0 (text ++ numbered_report (number, after (seen old) e)) numbers_before numbers_left before
+    left
 leaves seen e text_0 numbers_0 list_0 text nb n nl before old left s full =
     let its = numbered_report (n, after (seen old) e) in
     let rest : reports_after e (zip (n ∷ nl) (map seen (old ∷ left))) ≡ its ++ reports_after e (zip nl (map seen left)) = rw full refl in
@@ -125,12 +138,16 @@ past xs before at parts is below =
     let none : length xs ≡ length before + 0 = rw parts (length-append before []) in
     omega (arith, none, is, below)
 
-by_parts : {B : Type 0} (seen : B → WatchState) (e : GroupEvent) (text_0 numbers_0 : List ℕ) (list_0 : List B) (text numbers : List ℕ) (list : List B) (at : ℕ)
-    (numbers_before numbers_left : List ℕ) (before left : List B) → numbers ≡ numbers_before ++ numbers_left → list ≡ before ++ left → length before ≡ at
+by_parts : {B : Type 0} (seen : B → WatchState) (e : GroupEvent) (text_0 numbers_0 : List ℕ) (list_0 : List B) (text numbers : List ℕ)
+    (list : List B) (at : ℕ)
+    (numbers_before numbers_left : List ℕ) (before left : List B) → numbers ≡ numbers_before ++ numbers_left → list ≡ before ++ left
+    → length before ≡ at
     → IsShownTo seen e text_0 numbers_0 list_0 text numbers_before numbers_left before left → at < length list
     → IsAt seen e text_0 numbers_0 list_0 text numbers list at
-by_parts seen e text_0 numbers_0 list_0 text numbers list at nb nl before [] np lp place s below = absurd (past list before at lp place below)
-by_parts seen e text_0 numbers_0 list_0 text numbers list at nb [] before (old ∷ left) np lp place s below = absurd (omega (arith, s.as_many))
+by_parts seen e text_0 numbers_0 list_0 text numbers list at nb nl before [] np lp place s below =
+    absurd (past list before at lp place below)
+by_parts seen e text_0 numbers_0 list_0 text numbers list at nb [] before (old ∷ left) np lp place s below =
+    absurd (omega (arith, s.as_many))
 by_parts seen e text_0 numbers_0 list_0 text numbers list at nb (n ∷ nl) before (old ∷ left) np lp place s below = record {
   numbers_before = nb;
   number = n;
@@ -144,26 +161,33 @@ by_parts seen e text_0 numbers_0 list_0 text numbers list at nb (n ∷ nl) befor
   shown = s;
 }
 
-pub at_watcher : {B : Type 0} (seen : B → WatchState) (e : GroupEvent) (text_0 numbers_0 : List ℕ) (list_0 : List B) (text numbers : List ℕ) (list : List B) (at : ℕ)
-    → IsShown seen e text_0 numbers_0 list_0 text numbers list at → at < length list → IsAt seen e text_0 numbers_0 list_0 text numbers list at
+pub at_watcher : {B : Type 0} (seen : B → WatchState) (e : GroupEvent) (text_0 numbers_0 : List ℕ) (list_0 : List B) (text numbers : List ℕ)
+    (list : List B) (at : ℕ)
+    → IsShown seen e text_0 numbers_0 list_0 text numbers list at → at < length list
+    → IsAt seen e text_0 numbers_0 list_0 text numbers list at
 at_watcher seen e text_0 numbers_0 list_0 text numbers list at s below =
-    by_parts seen e text_0 numbers_0 list_0 text numbers list at s.numbers_before s.numbers_left s.before s.left s.numbers_parts s.list_parts s.place s.shown below
+    by_parts seen e text_0 numbers_0 list_0 text numbers list at s.numbers_before s.numbers_left s.before s.left s.numbers_parts
+    s.list_parts s.place s.shown below
 
-set_at : {A : Type 0} (xs before : List A) (x y : A) (left : List A) (at : ℕ) → xs ≡ before ++ x ∷ left → length before ≡ at → slice_set xs at y ≡ before ++ y ∷ left
+set_at : {A : Type 0} (xs before : List A) (x y : A) (left : List A) (at : ℕ) → xs ≡ before ++ x ∷ left → length before ≡ at
+    → slice_set xs at y ≡ before ++ y ∷ left
 set_at xs before x y left at parts is = rw (parts, sym is) (set-append_seam before x left y)
 
-get_at : {A : Type 0} (xs before : List A) (x d : A) (left : List A) (at : ℕ) → xs ≡ before ++ x ∷ left → length before ≡ at → get_or xs at d ≡ x
+get_at : {A : Type 0} (xs before : List A) (x d : A) (left : List A) (at : ℕ) → xs ≡ before ++ x ∷ left → length before ≡ at
+    → get_or xs at d ≡ x
 get_at xs before x d left at parts is = rw (parts, sym is) (get_or-append_seam before x left d)
 
 remove_seam : {A : Type 0} (before : List A) (x : A) (left : List A) → remove (before ++ x ∷ left) (length before) ≡ before ++ left
 remove_seam [] x left = refl
 remove_seam (y ∷ before) x left = ap (λ zs. y ∷ zs) (remove_seam before x left)
 
-remove_at : {A : Type 0} (xs before : List A) (x : A) (left : List A) (at : ℕ) → xs ≡ before ++ x ∷ left → length before ≡ at → remove xs at ≡ before ++ left
+remove_at : {A : Type 0} (xs before : List A) (x : A) (left : List A) (at : ℕ) → xs ≡ before ++ x ∷ left → length before ≡ at
+    → remove xs at ≡ before ++ left
 remove_at xs before x left at parts is = rw (parts, sym is) (remove_seam before x left)
 
 -- The watcher at the place has room for the group.
-pub has_room : {B : Type 0} (seen : B → WatchState) (e : GroupEvent) (text_0 numbers_0 : List ℕ) (list_0 : List B) (text numbers : List ℕ) (list : List B) (at : ℕ) (old : B)
+pub has_room : {B : Type 0} (seen : B → WatchState) (e : GroupEvent) (text_0 numbers_0 : List ℕ) (list_0 : List B) (text numbers : List ℕ)
+    (list : List B) (at : ℕ) (old : B)
     → IsShown seen e text_0 numbers_0 list_0 text numbers list at → at < length list → old ≡ get_or list at old → AwaitsGroups (seen old)
 has_room seen e text_0 numbers_0 list_0 text numbers list at old s below is =
     let a = at_watcher seen e text_0 numbers_0 list_0 text numbers list at s below in
@@ -171,8 +195,10 @@ has_room seen e text_0 numbers_0 list_0 text numbers list at old s below is =
     subst (λ b. AwaitsGroups (seen b)) (sym its) (a.shown.room 0 (seen a.watcher) (omega arith))
 
 -- The watcher has seen the group, and stays.
-pub after_stay : {B : Type 0} (seen : B → WatchState) (e : GroupEvent) (text_0 numbers_0 : List ℕ) (list_0 : List B) (text numbers : List ℕ) (list : List B) (at : ℕ) (old now : B)
-    → IsShown seen e text_0 numbers_0 list_0 text numbers list at → at < length list → old ≡ get_or list at old → seen now ≡ after (seen old) e → keep_of (seen now) ≡ Stay
+pub after_stay : {B : Type 0} (seen : B → WatchState) (e : GroupEvent) (text_0 numbers_0 : List ℕ) (list_0 : List B) (text numbers : List ℕ)
+    (list : List B) (at : ℕ) (old now : B)
+    → IsShown seen e text_0 numbers_0 list_0 text numbers list at → at < length list → old ≡ get_or list at old
+    → seen now ≡ after (seen old) e → keep_of (seen now) ≡ Stay
     → IsShown seen e text_0 numbers_0 list_0 text numbers (slice_set list at now) (at + 1)
 after_stay seen e text_0 numbers_0 list_0 text numbers list at old now s below is shown keeps =
     let a = at_watcher seen e text_0 numbers_0 list_0 text numbers list at s below in
@@ -186,24 +212,32 @@ after_stay seen e text_0 numbers_0 list_0 text numbers list at old now s below i
       numbers_parts = a.numbers_parts ∙ sym (append_assoc a.numbers_before (a.number ∷ []) a.numbers_left);
       list_parts = set_at list a.before a.watcher now a.left at a.list_parts a.place ∙ sym (append_assoc a.before (now ∷ []) a.left);
       place = length-append a.before (now ∷ []) ∙ ap (λ n. n + 1) a.place;
-      shown = stays seen e text_0 numbers_0 list_0 text a.numbers_before a.number a.numbers_left a.before a.watcher now a.left a.shown sees (subst (λ w. is_full w ≡ false) sees (stays_is (seen now) keeps));
+      shown =
+          stays seen e text_0 numbers_0 list_0 text a.numbers_before a.number a.numbers_left a.before a.watcher now a.left a.shown sees
+          (subst (λ w. is_full w ≡ false) sees (stays_is (seen now) keeps));
     }
 
 -- The watcher is full with the group, has reported and is gone.
-pub after_full : {B : Type 0} (seen : B → WatchState) (e : GroupEvent) (text_0 numbers_0 : List ℕ) (list_0 : List B) (text numbers : List ℕ) (list : List B) (at : ℕ) (old now : B) (text_1 numbers_1 : List ℕ) (list_1 : List B) (d : WatchState)
-    → IsShown seen e text_0 numbers_0 list_0 text numbers list at → at < length list → old ≡ get_or list at old → seen now ≡ after (seen old) e → keep_of (seen now) ≡ Full
-    → text_1 ≡ text ++ numbered_report (get_or numbers at 0, get_or (map seen (slice_set list at now)) at d) → numbers_1 ≡ remove numbers at → list_1 ≡ remove (slice_set list at now) at
+pub after_full : {B : Type 0} (seen : B → WatchState) (e : GroupEvent) (text_0 numbers_0 : List ℕ) (list_0 : List B) (text numbers : List ℕ)
+    (list : List B) (at : ℕ) (old now : B) (text_1 numbers_1 : List ℕ) (list_1 : List B) (d : WatchState)
+    → IsShown seen e text_0 numbers_0 list_0 text numbers list at → at < length list → old ≡ get_or list at old
+    → seen now ≡ after (seen old) e → keep_of (seen now) ≡ Full
+    → text_1 ≡ text ++ numbered_report (get_or numbers at 0, get_or (map seen (slice_set list at now)) at d) → numbers_1 ≡ remove numbers at
+    → list_1 ≡ remove (slice_set list at now) at
     → IsShown seen e text_0 numbers_0 list_0 text_1 numbers_1 list_1 at
-after_full seen e text_0 numbers_0 list_0 text numbers list at old now text_1 numbers_1 list_1 d s below is shown full reported numbers_left list_left =
+after_full seen e text_0 numbers_0 list_0 text numbers list at old now text_1 numbers_1 list_1 d s below is shown full reported numbers_left
+    list_left =
     let a = at_watcher seen e text_0 numbers_0 list_0 text numbers list at s below in
     let its : old ≡ a.watcher = is ∙ get_at list a.before a.watcher old a.left at a.list_parts a.place in
     let sees : seen now ≡ after (seen a.watcher) e = subst (λ b. seen now ≡ after (seen b) e) its shown in
     let at_numbers : length a.numbers_before ≡ at = a.shown.as_many_before ∙ a.place in
     let set_parts : slice_set list at now ≡ a.before ++ now ∷ a.left = set_at list a.before a.watcher now a.left at a.list_parts a.place in
-    let mapped : map seen (slice_set list at now) ≡ map seen a.before ++ seen now ∷ map seen a.left = ap (map seen) set_parts ∙ map-append seen a.before (now ∷ a.left) in
+    let mapped : map seen (slice_set list at now) ≡ map seen a.before ++ seen now ∷ map seen a.left =
+    ap (map seen) set_parts ∙ map-append seen a.before (now ∷ a.left) in
     let number : get_or numbers at 0 ≡ a.number = get_at numbers a.numbers_before a.number 0 a.numbers_left at a.numbers_parts at_numbers in
     let state : get_or (map seen (slice_set list at now)) at d ≡ after (seen a.watcher) e =
-    get_at (map seen (slice_set list at now)) (map seen a.before) (seen now) d (map seen a.left) at mapped (length-map a.before seen ∙ a.place) ∙ sees in
+    get_at (map seen (slice_set list at now)) (map seen a.before)
+    (seen now) d (map seen a.left) at mapped (length-map a.before seen ∙ a.place) ∙ sees in
     let its_text : text_1 ≡ text ++ numbered_report (a.number, after (seen a.watcher) e) = rw (number, state) at reported in
     record {
       numbers_before = a.numbers_before;
@@ -215,11 +249,13 @@ after_full seen e text_0 numbers_0 list_0 text numbers list at old now text_1 nu
       place = a.place;
       shown =
           subst (λ t. IsShownTo seen e text_0 numbers_0 list_0 t a.numbers_before a.numbers_left a.before a.left) (sym its_text)
-          (leaves seen e text_0 numbers_0 list_0 text a.numbers_before a.number a.numbers_left a.before a.watcher a.left a.shown (subst (λ w. is_full w ≡ true) sees (full_is (seen now) full)));
+          (leaves seen e text_0 numbers_0 list_0 text a.numbers_before a.number a.numbers_left a.before a.watcher a.left a.shown
+          (subst (λ w. is_full w ≡ true) sees (full_is (seen now) full)));
     }
 
 -- Where it couldn't see the group, or couldn't report, all the others are as they were or have seen it.
-pub given_up_before : {B : Type 0} (seen : B → WatchState) (e : GroupEvent) (text_0 numbers_0 : List ℕ) (list_0 : List B) (text numbers : List ℕ) (list : List B) (at : ℕ) (old now : B)
+pub given_up_before : {B : Type 0} (seen : B → WatchState) (e : GroupEvent) (text_0 numbers_0 : List ℕ) (list_0 : List B)
+    (text numbers : List ℕ) (list : List B) (at : ℕ) (old now : B)
     → IsShown seen e text_0 numbers_0 list_0 text numbers list at → at < length list → old ≡ get_or list at old → seen now ≡ seen old
     → IsAmidGroup (e ∷ []) 0 (map seen list_0) (map seen (slice_set list at now))
 given_up_before seen e text_0 numbers_0 list_0 text numbers list at old now s below is same =
@@ -227,26 +263,32 @@ given_up_before seen e text_0 numbers_0 list_0 text numbers list at old now s be
     let its : old ≡ a.watcher = is ∙ get_at list a.before a.watcher old a.left at a.list_parts a.place in
     let unseen : seen now ≡ seen a.watcher = same ∙ ap seen its in
     let set_parts : slice_set list at now ≡ a.before ++ now ∷ a.left = set_at list a.before a.watcher now a.left at a.list_parts a.place in
-    let mapped : map seen (slice_set list at now) ≡ map seen a.before ++ seen now ∷ map seen a.left = ap (map seen) set_parts ∙ map-append seen a.before (now ∷ a.left) in
+    let mapped : map seen (slice_set list at now) ≡ map seen a.before ++ seen now ∷ map seen a.left =
+    ap (map seen) set_parts ∙ map-append seen a.before (now ∷ a.left) in
     subst (IsAmidGroup (e ∷ []) 0 (map seen list_0)) (sym mapped)
     (a.shown.amid (seen now ∷ map seen a.left) (inr (seen now, map seen a.left, refl, inl unseen, as_they_were e (map seen a.left))))
 
-pub given_up_after : {B : Type 0} (seen : B → WatchState) (e : GroupEvent) (text_0 numbers_0 : List ℕ) (list_0 : List B) (text numbers : List ℕ) (list : List B) (at : ℕ) (old now : B) (list_1 : List B)
-    → IsShown seen e text_0 numbers_0 list_0 text numbers list at → at < length list → old ≡ get_or list at old → seen now ≡ after (seen old) e → list_1 ≡ slice_set list at now
+pub given_up_after : {B : Type 0} (seen : B → WatchState) (e : GroupEvent) (text_0 numbers_0 : List ℕ) (list_0 : List B)
+    (text numbers : List ℕ) (list : List B) (at : ℕ) (old now : B) (list_1 : List B)
+    → IsShown seen e text_0 numbers_0 list_0 text numbers list at → at < length list → old ≡ get_or list at old
+    → seen now ≡ after (seen old) e → list_1 ≡ slice_set list at now
     → IsAmidGroup (e ∷ []) 0 (map seen list_0) (map seen list_1)
 given_up_after seen e text_0 numbers_0 list_0 text numbers list at old now list_1 s below is shown kept =
     let a = at_watcher seen e text_0 numbers_0 list_0 text numbers list at s below in
     let its : old ≡ a.watcher = is ∙ get_at list a.before a.watcher old a.left at a.list_parts a.place in
     let sees : seen now ≡ after (seen a.watcher) e = subst (λ b. seen now ≡ after (seen b) e) its shown in
     let set_parts : slice_set list at now ≡ a.before ++ now ∷ a.left = set_at list a.before a.watcher now a.left at a.list_parts a.place in
-    let mapped : map seen list_1 ≡ map seen a.before ++ seen now ∷ map seen a.left = ap (map seen) (kept ∙ set_parts) ∙ map-append seen a.before (now ∷ a.left) in
+    let mapped : map seen list_1 ≡ map seen a.before ++ seen now ∷ map seen a.left =
+    ap (map seen) (kept ∙ set_parts) ∙ map-append seen a.before (now ∷ a.left) in
     subst (IsAmidGroup (e ∷ []) 0 (map seen list_0)) (sym mapped)
     (a.shown.amid (seen now ∷ map seen a.left) (inr (seen now, map seen a.left, refl, inr sees, as_they_were e (map seen a.left))))
 
-pub as_many_at : {B : Type 0} (seen : B → WatchState) (e : GroupEvent) (text_0 numbers_0 : List ℕ) (list_0 : List B) (text numbers : List ℕ) (list : List B) (at : ℕ)
+pub as_many_at : {B : Type 0} (seen : B → WatchState) (e : GroupEvent) (text_0 numbers_0 : List ℕ) (list_0 : List B) (text numbers : List ℕ)
+    (list : List B) (at : ℕ)
     → IsShown seen e text_0 numbers_0 list_0 text numbers list at → length numbers ≡ length list
 as_many_at seen e text_0 numbers_0 list_0 text numbers list at s =
-    ap length s.numbers_parts ∙ length-append s.numbers_before s.numbers_left ∙ omega (arith, s.shown.as_many_before, s.shown.as_many) ∙ sym (length-append s.before s.left) ∙ ap length (sym s.list_parts)
+    ap length s.numbers_parts ∙ length-append s.numbers_before s.numbers_left ∙ omega (arith, s.shown.as_many_before, s.shown.as_many)
+    ∙ sym (length-append s.before s.left) ∙ ap length (sym s.list_parts)
 
 none_left : {A : Type 0} (xs before left : List A) (at : ℕ) → xs ≡ before ++ left → length before ≡ at → length xs ≤ at → left ≡ []
 none_left xs before [] at parts is over = refl
@@ -255,18 +297,23 @@ none_left xs before (x ∷ left) at parts is over =
     absurd (omega (arith, more, is, over))
 
 -- Past the last one all have seen the group.
-pub at_end : {B : Type 0} (seen : B → WatchState) (e : GroupEvent) (text_0 numbers_0 : List ℕ) (list_0 : List B) (text numbers : List ℕ) (list : List B) (at : ℕ)
+pub at_end : {B : Type 0} (seen : B → WatchState) (e : GroupEvent) (text_0 numbers_0 : List ℕ) (list_0 : List B) (text numbers : List ℕ)
+    (list : List B) (at : ℕ)
     → IsShown seen e text_0 numbers_0 list_0 text numbers list at → length list ≤ at
-    → (text ≡ text_0 ++ reports_after e (zip numbers_0 (map seen list_0))) × (zip numbers (map seen list) ≡ left_after e (zip numbers_0 (map seen list_0)))
+    → (text ≡ text_0 ++ reports_after e (zip numbers_0 (map seen list_0)))
+    × (zip numbers (map seen list) ≡ left_after e (zip numbers_0 (map seen list_0)))
 at_end seen e text_0 numbers_0 list_0 text numbers list at s over =
     let left : s.left ≡ [] = none_left list s.before s.left at s.list_parts s.place over in
     let numbers_left : s.numbers_left ≡ [] = nil_from_length s.numbers_left (s.shown.as_many ∙ ap length left) in
     let all : list ≡ s.before = s.list_parts ∙ ap (λ xs. s.before ++ xs) left ∙ append-nil s.before in
-    let all_numbers : numbers ≡ s.numbers_before = s.numbers_parts ∙ ap (λ xs. s.numbers_before ++ xs) numbers_left ∙ append-nil s.numbers_before in
+    let all_numbers : numbers ≡ s.numbers_before =
+    s.numbers_parts ∙ ap (λ xs. s.numbers_before ++ xs) numbers_left ∙ append-nil s.numbers_before in
     let none : zip s.numbers_left (map seen s.left) ≡ [] = rw numbers_left refl in
-    let reported : text ++ [] ≡ text_0 ++ reports_after e (zip numbers_0 (map seen list_0)) = subst (λ ws. text ++ reports_after e ws ≡ text_0 ++ reports_after e (zip numbers_0 (map seen list_0))) none s.shown.reported in
+    let reported : text ++ [] ≡ text_0 ++ reports_after e (zip numbers_0 (map seen list_0)) =
+    subst (λ ws. text ++ reports_after e ws ≡ text_0 ++ reports_after e (zip numbers_0 (map seen list_0))) none s.shown.reported in
     let stay : zip s.numbers_before (map seen s.before) ++ [] ≡ left_after e (zip numbers_0 (map seen list_0)) =
-    subst (λ ws. zip s.numbers_before (map seen s.before) ++ left_after e ws ≡ left_after e (zip numbers_0 (map seen list_0))) none s.shown.stay in
+    subst (λ ws. zip s.numbers_before (map seen s.before) ++ left_after e ws ≡ left_after e (zip numbers_0 (map seen list_0))) none
+    s.shown.stay in
     (sym (append-nil text) ∙ reported, rw (all, all_numbers) (sym (append-nil (zip s.numbers_before (map seen s.before))) ∙ stay))
 
 -- What holds anyhow holds where a call failed.
@@ -274,7 +321,8 @@ pub if_err : {X E : Type 0} {P : Type 0} (r : Result X E) → P → OnErr r P
 if_err (Ok x) p = tt
 if_err (Err e) p = p
 
-pub one_fewer : {B : Type 0} (list list_1 : List B) (at : ℕ) (now : B) → at < length list → list_1 ≡ remove (slice_set list at now) at → length list_1 - at < length list - at
+pub one_fewer : {B : Type 0} (list list_1 : List B) (at : ℕ) (now : B) → at < length list → list_1 ≡ remove (slice_set list at now) at
+    → length list_1 - at < length list - at
 one_fewer list list_1 at now below is =
     let set : length (slice_set list at now) ≡ length list = length-set list at now in
     let len : length list_1 + 1 ≡ length list = rw is (length-remove (slice_set list at now) at (omega (arith, set, below)) ∙ set) in
@@ -293,18 +341,22 @@ next : {A : Type 0} (xs : List A) (at : ℕ) (d : A) → at < length xs → drop
 next xs at d below = simp unary_clauses (drop-cons xs at d below)
 
 pub reported_one : {B : Type 0} (seen : B → WatchState) (all text numbers : List ℕ) (list : List B) (at n : ℕ) (w : B) (text_1 : List ℕ)
-    → IsReportedTo seen all text numbers list at → at < length list → n ≡ get_or numbers at n → w ≡ get_or list at w → text_1 ≡ text ++ numbered_report (n, seen w)
+    → IsReportedTo seen all text numbers list at → at < length list → n ≡ get_or numbers at n → w ≡ get_or list at w
+    → text_1 ≡ text ++ numbered_report (n, seen w)
     → IsReportedTo seen all text_1 numbers list (at + 1)
 reported_one seen all text numbers list at n w text_1 r below is_n is_w is =
-    let numbers_left : drop at numbers ≡ n ∷ drop (at + 1) numbers = next numbers at n (omega (arith, r.as_many, below)) ∙ ap (λ x. x ∷ drop (at + 1) numbers) (sym is_n) in
+    let numbers_left : drop at numbers ≡ n ∷ drop (at + 1) numbers =
+    next numbers at n (omega (arith, r.as_many, below)) ∙ ap (λ x. x ∷ drop (at + 1) numbers) (sym is_n) in
     let left : drop at list ≡ w ∷ drop (at + 1) list = next list at w below ∙ ap (λ x. x ∷ drop (at + 1) list) (sym is_w) in
-    let whole : text ++ flat_map numbered_report (zip (n ∷ drop (at + 1) numbers) (map seen (w ∷ drop (at + 1) list))) ≡ all = rw (numbers_left, left) at r.whole in
+    let whole : text ++ flat_map numbered_report (zip (n ∷ drop (at + 1) numbers) (map seen (w ∷ drop (at + 1) list))) ≡ all =
+    rw (numbers_left, left) at r.whole in
     record {
       within = omega (arith, below);
       as_many = r.as_many;
       whole =
           ap (λ t. t ++ flat_map numbered_report (zip (drop (at + 1) numbers) (map seen (drop (at + 1) list)))) is
-          ∙ append_assoc text (numbered_report (n, seen w)) (flat_map numbered_report (zip (drop (at + 1) numbers) (map seen (drop (at + 1) list)))) ∙ whole;
+          ∙ append_assoc text (numbered_report (n, seen w)) (flat_map numbered_report
+          (zip (drop (at + 1) numbers) (map seen (drop (at + 1) list)))) ∙ whole;
     }
 
 pub of_ok : {T E : Type 0} (r : Result T E) (v : T) (P : T → Type 0) → r ≡ Ok v → IfOk r P → P v

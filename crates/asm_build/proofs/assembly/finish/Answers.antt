@@ -6,7 +6,8 @@ use Rattle.asm_build.proofs.Finishing.{AreRelated, AreParts, related_of, parts_i
 use Rattle.asm_build.proofs.RelationSets.{relations_of_all}
 use Rattle.asm_build.proofs.assembly.finish.Goals as goal
 
-parts : (c : goal.After-deref-4) → AreParts c.args.lines.parts c.in_ok-named.named.bundles.items c.in_ok-entries.entries.items c.in_ok-bytes.bytes.items c.in_ok-relations.relations.items
+parts : (c : goal.After-deref-4) → AreParts c.args.lines.parts c.in_ok-named.named.bundles.items c.in_ok-entries.entries.items
+    c.in_ok-bytes.bytes.items c.in_ok-relations.relations.items
 parts c =
     let inside : AreLabelsInside c.args.lines.parts = search rules in
     let some : 1 ≤ length c.args.lines.parts.bundles = search rules in
@@ -23,7 +24,9 @@ parts c =
       bundles_are = c.in_ok-named.ensures.ok.1;
       entries_are = entries_are;
       bytes_are = rw (sym c.parts.view_is) c.in_ok-bytes.ensures;
-      related = related_of c.args.lines.parts c.deref.result.now c.deref-2.result.now c.deref-3.result.now (bundles ∙ c.in_ok-named.ensures.ok.1) (entries ∙ entries_are) (rw (sym c.parts.view_is) lines) related.0;
+      related =
+          related_of c.args.lines.parts c.deref.result.now c.deref-2.result.now c.deref-3.result.now (bundles ∙ c.in_ok-named.ensures.ok.1)
+          (entries ∙ entries_are) (rw (sym c.parts.view_is) lines) related.0;
       relations_are = rw (sym c.parts.view_is) (c.in_ok-relations.ensures ∙ related.1 ∙ ap (λ ls. all_related [] ls) lines);
     }
 
@@ -40,7 +43,8 @@ pub checked-requires-clause-relations : goal.checked-requires-clause-relations
 checked-requires-clause-relations c =
     let bundles : c.deref.result.now ≡ c.in_ok-named.named.bundles.items = search rules in
     let entries : c.deref-2.result.now ≡ c.in_ok-entries.entries.items = search rules in
-    let good : AreRelationsOf (IsEntryOf c.in_ok-named.named.bundles.items c.in_ok-entries.entries.items) c.in_ok-related.related.keys = rw (bundles, entries) at c.in_ok-related.ensures.good in
+    let good : AreRelationsOf (IsEntryOf c.in_ok-named.named.bundles.items c.in_ok-entries.entries.items) c.in_ok-related.related.keys =
+    rw (bundles, entries) at c.in_ok-related.ensures.good in
     let of = relations_of_all c.in_ok-named.named.bundles.items c.in_ok-entries.entries.items c.in_ok-related.related.keys good in
     subst (λ rs. AreRelations c.in_ok-named.named.bundles.items c.in_ok-entries.entries.items rs) (sym c.in_ok-relations.ensures) of
 
@@ -54,5 +58,8 @@ returns-clause-err c =
     let entries : c.deref-2.result.now ≡ c.in_ok-entries.entries.items = search rules in
     let lines : c.deref-3.result.now ≡ c.parts.inside.relations.items = search rules in
     let entries_are = c.in_ok-entries.ensures ∙ c.in_ok-named.ensures.ok.2 in
-    let related : AreRelated c.args.lines.parts = related_of c.args.lines.parts c.deref.result.now c.deref-2.result.now c.deref-3.result.now (bundles ∙ c.in_ok-named.ensures.ok.1) (entries ∙ entries_are) (rw (sym c.parts.view_is) lines) c.in_ok-related.ensures.ok.0 in
-    run_reported c.args.lines.count c.args.lines.parts c.deref-4.result.now c.in_ok-named.named.bundles.items c.checked.result closed inside some c.in_ok-named.ensures.ok.0 related (rw (sym c.parts.view_is) same) c.in_ok-named.ensures.ok.1 c.checked.ensures.err
+    let related : AreRelated c.args.lines.parts =
+    related_of c.args.lines.parts c.deref.result.now c.deref-2.result.now c.deref-3.result.now (bundles ∙ c.in_ok-named.ensures.ok.1)
+    (entries ∙ entries_are) (rw (sym c.parts.view_is) lines) c.in_ok-related.ensures.ok.0 in
+    run_reported c.args.lines.count c.args.lines.parts c.deref-4.result.now c.in_ok-named.named.bundles.items c.checked.result closed inside
+    some c.in_ok-named.ensures.ok.0 related (rw (sym c.parts.view_is) same) c.in_ok-named.ensures.ok.1 c.checked.ensures.err

@@ -9,4 +9,5 @@ finish-requires c = omega (arith, c.in_ok-lines.ensures.ok.1, length-lines c.arg
 
 pub returns-clause-fault : goal.returns-clause-fault
 returns-clause-fault c =
-    end_reported program_reading c.args.text.now c.in_ok-lines.lines.parts c.in_ok-lines.lines.count c.finish.result c.in_ok-lines.ensures.ok.0 c.in_ok-lines.ensures.ok.1 c.finish.ensures.err
+    end_reported program_reading c.args.text.now c.in_ok-lines.lines.parts c.in_ok-lines.lines.count c.finish.result
+    c.in_ok-lines.ensures.ok.0 c.in_ok-lines.ensures.ok.1 c.finish.ensures.err

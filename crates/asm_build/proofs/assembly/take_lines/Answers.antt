@@ -11,7 +11,9 @@ returns-in_err-take_line-clause-err c =
     let before = c.loop-line.parts in
     let line = c.in-Some.line.now in
     let all = text_lines c.args.text.now in
-    let go : (r : Result TextParts TextError) → ComesTo before (c.loop-line.count + 1) (line ∷ c.next.new.self) r → ComesTo start 1 all r = rw c.in-Some.ensures.steps at c.loop-line.invariant.1 in
+    let go : (r : Result TextParts TextError) → ComesTo before (c.loop-line.count + 1) (line ∷ c.next.new.self) r → ComesTo start 1 all r =
+    rw c.in-Some.ensures.steps at c.loop-line.invariant.1 in
     let fault : (c.in_err-take_line.field-0.0 ≡ error.Memory) ⊎ ComesTo start 1 all (Err c.in_err-take_line.field-0.0) =
-    refused_after program_reading before start (c.loop-line.count + 1) line c.next.new.self all c.in_err-take_line.field-0.0 go c.in_err-take_line.ensures.err in
+    refused_after program_reading before start (c.loop-line.count + 1) line c.next.new.self all c.in_err-take_line.field-0.0 go
+    c.in_err-take_line.ensures.err in
     search (rules, fault)

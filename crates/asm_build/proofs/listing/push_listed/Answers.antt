@@ -9,14 +9,20 @@ unreachable-requires c =
 
 pub push_bundle-requires-clause-spelled : goal.push_bundle-requires-clause-spelled
 push_bundle-requires-clause-spelled c =
-    let next = next_spelled c.args.bundles.now c.loop-n.n c.index-bundles-n.result c.loop-n.rest.now c.loop-n-test.true c.index-bundles-n.is c.loop-n.invariant.spelled in
+    let next =
+    next_spelled c.args.bundles.now c.loop-n.n c.index-bundles-n.result c.loop-n.rest.now c.loop-n-test.true c.index-bundles-n.is
+    c.loop-n.invariant.spelled in
     rw c.in-Some.ensures.cases.0 next.0
 
 pub loop-n-preserved : goal.loop-n-preserved
 loop-n-preserved c =
-    let next = next_spelled c.args.bundles.now c.loop-n.n c.index-bundles-n.result c.loop-n.rest.now c.loop-n-test.true c.index-bundles-n.is c.loop-n.invariant.spelled in
+    let next =
+    next_spelled c.args.bundles.now c.loop-n.n c.index-bundles-n.result c.loop-n.rest.now c.loop-n-test.true c.index-bundles-n.is
+    c.loop-n.invariant.spelled in
     record {
-      listed = one_more_listed c.args.bundles.now c.loop-n.n c.index-bundles-n.result c.args.out.now.items c.loop-n.out.items c.push_bundle.new.out.items c.loop-n-test.true c.index-bundles-n.is c.loop-n.invariant.listed c.in_ok-push_bundle.ensures;
+      listed =
+          one_more_listed c.args.bundles.now c.loop-n.n c.index-bundles-n.result c.args.out.now.items c.loop-n.out.items
+          c.push_bundle.new.out.items c.loop-n-test.true c.index-bundles-n.is c.loop-n.invariant.listed c.in_ok-push_bundle.ensures;
       spelled = rw c.in-Some.ensures.cases.1 next.1;
     }
 

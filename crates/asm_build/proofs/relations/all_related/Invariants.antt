@@ -8,7 +8,9 @@ use Rattle.asm_build.proofs.relations.all_related.Given as goal
 abbrev pub invariant-loop-line : goal.invariant-loop-line
 invariant-loop-line l = record {
   value : all_related l.relations.keys (drop l.line-index l.lines) ≡ all_related [] l.lines;
-  passed : ArePassed (relation_stages (IsEntryOf l.bundles l.entries) l.relations.keys (drop l.line-index l.lines)) → ArePassed (relation_stages (IsEntryOf l.bundles l.entries) [] l.lines);
-  fault : (e : TextError) → IsFirstFault (relation_stages (IsEntryOf l.bundles l.entries) l.relations.keys (drop l.line-index l.lines)) e → IsFirstFault (relation_stages (IsEntryOf l.bundles l.entries) [] l.lines) e;
+  passed : ArePassed (relation_stages (IsEntryOf l.bundles l.entries) l.relations.keys (drop l.line-index l.lines))
+      → ArePassed (relation_stages (IsEntryOf l.bundles l.entries) [] l.lines);
+  fault : (e : TextError) → IsFirstFault (relation_stages (IsEntryOf l.bundles l.entries) l.relations.keys (drop l.line-index l.lines)) e
+      → IsFirstFault (relation_stages (IsEntryOf l.bundles l.entries) [] l.lines) e;
   good : AreRelationsOf (IsEntryOf l.bundles l.entries) l.relations.keys;
 }

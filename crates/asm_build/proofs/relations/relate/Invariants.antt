@@ -4,4 +4,5 @@ use Rattle.asm_build.proofs.relations.relate.Given as goal
 
 abbrev pub invariant-loop-p : goal.invariant-loop-p
 invariant-loop-p l =
-    with_relations l.relations.keys (flat_map (λ p. relations_above l.bundle p l.predicates) (drop l.p-index l.predicates)) ≡ with_relations l.fn.relations.keys (relations_among l.bundle l.predicates)
+    with_relations l.relations.keys (flat_map (λ p. relations_above l.bundle p l.predicates) (drop l.p-index l.predicates))
+    ≡ with_relations l.fn.relations.keys (relations_among l.bundle l.predicates)

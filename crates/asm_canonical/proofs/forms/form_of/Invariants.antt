@@ -7,4 +7,5 @@ use Rattle.asm_canonical.proofs.forms.form_of.Given as goal
 
 abbrev pub invariant-loop-form : goal.invariant-loop-form
 invariant-loop-form l =
-    find (λ f. has_fixed (row_of f).fixed l.opcode (at l.values)) (drop l.form-index (forms_of l.opcode)) ≡ find (λ f. has_fixed (row_of f).fixed l.opcode (at l.values)) (forms_of l.opcode)
+    find (λ f. has_fixed (row_of f).fixed l.opcode (at l.values)) (drop l.form-index (forms_of l.opcode))
+    ≡ find (λ f. has_fixed (row_of f).fixed l.opcode (at l.values)) (forms_of l.opcode)

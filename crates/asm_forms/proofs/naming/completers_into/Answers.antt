@@ -6,10 +6,19 @@ use Rattle.asm_forms.proofs.naming.completers_into.Goals as goal
 pub loop-set-preserved : goal.loop-set-preserved
 loop-set-preserved c = record {
   room = omega (arith, c.push.ensures.len, c.loop-set.invariant.room);
-  within = omega (arith, c.in-Some.ensures.room, ap length c.rest_of.ensures, ap length c.text.ensures, length-drop c.loop-set.at c.args.name.now, c.loop-set.invariant.within);
+  within =
+      omega (
+        arith,
+        c.in-Some.ensures.room,
+        ap length c.rest_of.ensures,
+        ap length c.text.ensures,
+        length-drop c.loop-set.at c.args.name.now,
+        c.loop-set.invariant.within,
+      );
   value =
       turn _ _ _ _ c.args.name.now _ c.loop-set.at _ _ c.in-Some.completer _
-      (drop_more c.args.sets.now c.loop-set.set-index _ c.loop-set-test.true) c.members.ensures c.rest_of.ensures (sym c.in-Some.is ∙ c.find_completer.ensures.value) c.push.ensures.items c.text.ensures
+      (drop_more c.args.sets.now c.loop-set.set-index _ c.loop-set-test.true) c.members.ensures c.rest_of.ensures
+      (sym c.in-Some.is ∙ c.find_completer.ensures.value) c.push.ensures.items c.text.ensures
       ∙ c.loop-set.invariant.value;
 }
 

@@ -8,5 +8,6 @@ use Rattle.asm_forms.proofs.naming.named_among.Given as goal
 abbrev pub invariant-loop-row : goal.invariant-loop-row
 invariant-loop-row l = record {
   room : array_vec_len l.named ≤ l.row-index;
-  value : l.named.items ++ map (λ r. r.form) (filter (is_named l.name) (map seen (drop l.row-index l.rows))) ≡ map (λ r. r.form) (filter (is_named l.name) (map seen l.rows));
+  value : l.named.items ++ map (λ r. r.form) (filter (is_named l.name) (map seen (drop l.row-index l.rows))) ≡ map (λ r. r.form)
+      (filter (is_named l.name) (map seen l.rows));
 }

@@ -17,6 +17,8 @@ loop-byte-preserved c =
     let digit : is_digit_byte (get_or ds i 0) ≡ true = sym c.is_digit_byte.ensures ∙ c.if-not-is_digit_byte.false in
     record {
       small = omega arith;
-      value = rw (c.from.ensures, c.from-in-loop-byte.ensures) (more_value ds i c.loop-byte.n c.loop-byte-test.true c.loop-byte.invariant.value digit);
+      value =
+          rw (c.from.ensures, c.from-in-loop-byte.ensures) (more_value ds i c.loop-byte.n c.loop-byte-test.true c.loop-byte.invariant.value
+          digit);
       digits = more_digits ds i c.loop-byte-test.true c.loop-byte.invariant.digits digit;
     }

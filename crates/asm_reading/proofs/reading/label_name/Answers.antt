@@ -12,5 +12,7 @@ loop-item-preserved c =
     let rest = take_all (length left - 1) (drop 1 left) (omega (arith, length-drop 1 left)) in
     record {
       parts = parts_later c.args.line.now left _ c.loop-item.invariant.parts rest;
-      value = label_later c.args.line.now c.args.items.now left _ c.loop-item.item-index _ c.loop-item-test.true c.in-len1-up.len_at_least (sym c.is_label_item.ensures ∙ c.if-is_label_item.false) rest ∙ c.loop-item.invariant.value;
+      value =
+          label_later c.args.line.now c.args.items.now left _ c.loop-item.item-index _ c.loop-item-test.true c.in-len1-up.len_at_least
+          (sym c.is_label_item.ensures ∙ c.if-is_label_item.false) rest ∙ c.loop-item.invariant.value;
     }

@@ -6,5 +6,6 @@ use Rattle.asm_reading.proofs.reading.led.Goals as goal
 pub returns : goal.returns
 returns c =
     c.led_by.ensures
-    ∙ led_there c.args.line.now c.args.lexemes.now _ _ c.in-Some.lead _ (omega (arith, c.if-lead-lexemes.false)) c.before-2.ensures c.from.ensures
+    ∙ led_there c.args.line.now c.args.lexemes.now _ _ c.in-Some.lead _ (omega (arith, c.if-lead-lexemes.false)) c.before-2.ensures
+    c.from.ensures
     ∙ ap (led_at (texts c.args.line.now c.args.lexemes.now)) (sym c.in-Some.is ∙ c.lead_at.ensures)

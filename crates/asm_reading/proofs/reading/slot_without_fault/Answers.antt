@@ -17,6 +17,9 @@ returns c =
     let form = c.in-Some.row in
     let cs = c.find_spelled.new.list.items in
     let d : c.deref.result.now ≡ cs = search rules in
-    put_there (λ v. worded c.args.name.now before after ≡ Ok v) c.slot_line.result c.slot_line.new.value (slot_if_read c.args.name.now before after c.in-Ok.qp form cs _ c.requires.slot (sym c.predicate.ensures ∙ c.in-Ok.is)
-    (ap (λ xs. find (is_spelled xs) (named_forms c.args.name.now)) (sym w) ∙ sym c.find_spelled.ensures.value ∙ c.in-Some.is) c.in-Some.ensures.read
-    (c.slot_line.ensures ∙ ap (λ ds. slot_line c.in-Ok.qp form ds c.as_slice-tokens.result.now after) d ∙ ap (λ xs. slot_line c.in-Ok.qp form cs xs after) t))
+    put_there (λ v. worded c.args.name.now before after ≡ Ok v) c.slot_line.result c.slot_line.new.value
+    (slot_if_read c.args.name.now before after c.in-Ok.qp form cs _ c.requires.slot (sym c.predicate.ensures ∙ c.in-Ok.is)
+    (ap (λ xs. find (is_spelled xs) (named_forms c.args.name.now)) (sym w) ∙ sym c.find_spelled.ensures.value ∙ c.in-Some.is)
+    c.in-Some.ensures.read
+    (c.slot_line.ensures ∙ ap (λ ds. slot_line c.in-Ok.qp form ds c.as_slice-tokens.result.now after) d
+    ∙ ap (λ xs. slot_line c.in-Ok.qp form cs xs after) t))

@@ -16,5 +16,7 @@ put_in-requires-clause-there c =
     let inside : c.loop-n.n < length c.items-items.result.now = omega (arith, c.loop-n-test.true) in
     let within = target_within s c.loop-n.n c.is_loose.ensures (subst (λ (xs : List Item). c.loop-n.n < length xs) items inside) in
     let is : c.relocated-target.result ≡ option_map (relocated f) (slice_index_or s.targets c.loop-n.n None) =
-    c.relocated-target.ensures ∙ ap (λ (xs : List (Option Address)). option_map (relocated f) (slice_index_or xs c.loop-n.n None)) targets in
-    subst (λ (o : Option Address). IfSome o IsReachable) (sym is) (moved_within f (slice_index_or s.targets c.loop-n.n None) c.requires within)
+    c.relocated-target.ensures ∙ ap (λ (xs : List (Option Address)). option_map (relocated f) (slice_index_or xs c.loop-n.n None))
+    targets in
+    subst (λ (o : Option Address). IfSome o IsReachable) (sym is)
+    (moved_within f (slice_index_or s.targets c.loop-n.n None) c.requires within)

@@ -19,7 +19,8 @@ pub bundle_insns-requires : goal.bundle_insns-requires
 bundle_insns-requires c =
     let laws : AreLayouts = record { is_layout = c.laid_out_is_layout.ensures; holds = c.laid_out_bundles.ensures.holds } in
     let is : c.deref.result.now ≡ places_of c.args.chunks.now = c.deref.ensures.value ∙ c.in_ok-layouts.ensures.places in
-    subst (λ (places : List Place). (n : ℕ) → bundle_in places n < BUNDLE_LIMIT) (sym is) (places_small laws c.args.chunks.now c.args.text.now.items c.requires.chunks.chunks c.requires.chunks.few)
+    subst (λ (places : List Place). (n : ℕ) → bundle_in places n < BUNDLE_LIMIT) (sym is)
+    (places_small laws c.args.chunks.now c.args.text.now.items c.requires.chunks.chunks c.requires.chunks.few)
 
 pub bundles-requires-clause-enough : goal.bundles-requires-clause-enough
 bundles-requires-clause-enough c =
@@ -48,7 +49,9 @@ of_parts-program-requires c =
     let r : c.deref-5.result.now ≡ places_of cs = c.deref-5.ensures.value ∙ c.in_ok-layouts.ensures.places in
     let put : c.deref-3.result.now ≡ targeted (bundle_in c.deref.result.now) s = c.deref-3.ensures.value ∙ c.in_ok-insns.ensures in
     let bytes : c.in_ok-data.data.items ≡ s.bytes = search rules in
-    let are = parts_are s cs c.deref.result.now c.deref-4.result.now c.deref-5.result.now c.deref-3.result.now c.in_ok-bundles.bundles.items c.entries.result.now c.in_ok-entries.entries.items c.in_ok-data.data.items c.relations.result.now c.in_ok-relations.relations.items
+    let are =
+    parts_are s cs c.deref.result.now c.deref-4.result.now c.deref-5.result.now c.deref-3.result.now c.in_ok-bundles.bundles.items
+    c.entries.result.now c.in_ok-entries.entries.items c.in_ok-data.data.items c.relations.result.now c.in_ok-relations.relations.items
     p q r put c.in_ok-bundles.ensures c.entries.ensures c.in_ok-entries.ensures bytes c.relations.ensures c.in_ok-relations.ensures in
     let program : IsProgram (program_of s cs) = c.bundled_is_program.ensures s cs c.is_loose.ensures c.requires.chunks c.requires.runs in
     subst (λ (p : Program). IsProgram p) (sym are) program
@@ -62,6 +65,8 @@ returns-clause-program c =
     let r : c.deref-5.result.now ≡ places_of cs = c.deref-5.ensures.value ∙ c.in_ok-layouts.ensures.places in
     let put : c.deref-3.result.now ≡ targeted (bundle_in c.deref.result.now) s = c.deref-3.ensures.value ∙ c.in_ok-insns.ensures in
     let bytes : c.in_ok-data.data.items ≡ s.bytes = search rules in
-    let are = parts_are s cs c.deref.result.now c.deref-4.result.now c.deref-5.result.now c.deref-3.result.now c.in_ok-bundles.bundles.items c.entries.result.now c.in_ok-entries.entries.items c.in_ok-data.data.items c.relations.result.now c.in_ok-relations.relations.items
+    let are =
+    parts_are s cs c.deref.result.now c.deref-4.result.now c.deref-5.result.now c.deref-3.result.now c.in_ok-bundles.bundles.items
+    c.entries.result.now c.in_ok-entries.entries.items c.in_ok-data.data.items c.relations.result.now c.in_ok-relations.relations.items
     p q r put c.in_ok-bundles.ensures c.entries.ensures c.in_ok-entries.ensures bytes c.relations.ensures c.in_ok-relations.ensures in
     c.of_parts-program.ensures ∙ are

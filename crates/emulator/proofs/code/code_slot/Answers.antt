@@ -15,5 +15,16 @@ returns c slot at =
     let here = c.in-Some.slot.now in
     let same : here ≡ slot = same_Some _ _ (c.in-Some.ensures ∙ at) in
     let next = numbered_back here.next (slot_next c.args.slots.now c.args.number here c.is_program.ensures (sym c.in-Some.ensures)) in
-    subst (λ (s : Slot). IsCodeSlotOf (c.args.number / 3) s (record { work = c.of.result; next = c.number_of.result; qp = here.qp; stop = here.stop })) same
-    (record { action = c.of.ensures.action; target = c.of.ensures.target; next = ap numbered c.number_of.ensures ∙ next; qp = refl; stop = refl })
+    subst (λ (s : Slot). IsCodeSlotOf (c.args.number / 3) s (record {
+      work = c.of.result;
+      next = c.number_of.result;
+      qp = here.qp;
+      stop = here.stop;
+    })) same
+    (record {
+      action = c.of.ensures.action;
+      target = c.of.ensures.target;
+      next = ap numbered c.number_of.ensures ∙ next;
+      qp = refl;
+      stop = refl;
+    })

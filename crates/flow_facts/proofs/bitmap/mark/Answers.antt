@@ -11,4 +11,5 @@ returns-clause-marks c m =
     let n = c.args.n in
     let old = c.index_mut.result.now in
     let is : old ≡ get_or words (n / 64) 0 = c.index_mut.ensures.value ∙ sym (get_or_default words (n / 64) 0 old c.requires) in
-    marked_set words n _ true c.requires (λ y l. set_value old (n % 64) true (omega arith) refl y l ∙ ap (λ (w : ℕ). cond (eqb y (n % 64)) true (has_bit w y)) is) m
+    marked_set words n _ true c.requires (λ y l. set_value old (n % 64) true (omega arith) refl y l
+    ∙ ap (λ (w : ℕ). cond (eqb y (n % 64)) true (has_bit w y)) is) m

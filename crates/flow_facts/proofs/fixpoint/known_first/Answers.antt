@@ -17,7 +17,9 @@ all_of_two p bundle program = All-filter (λ r. r.bundle == bundle) IsOfTwo p.re
     rw (get_or_default p.relations k d no_relation inside) (at.apart, omega (arith, at.static)))
 
 pub declared-requires : goal.declared-requires
-declared-requires c = subst (λ (rs : List Relation). All IsOfTwo rs) (sym c.relations_at.ensures) (all_of_two c.args.program.now c.args.bundle c.is_program.ensures)
+declared-requires c =
+    subst (λ (rs : List Relation). All IsOfTwo rs) (sym c.relations_at.ensures)
+    (all_of_two c.args.program.now c.args.bundle c.is_program.ensures)
 
 pub returns : goal.returns
 unfolding known_at_entry

@@ -18,7 +18,9 @@ pub returns-in-Some-clause-only : goal.returns-in-Some-clause-only
 returns-in-Some-clause-only c = λ i code.
     let e = c.decode.ensures.only (slot_part i) code.code in
     let same : c.in-Some.part ≡ slot_part i = cc in
-    let whole : c.whole.result ≡ i = c.whole.ensures ∙ ap (λ (p : Insn). record { qp = p.qp; op = whole_op c.args.l p.op }) same ∙ whole_only i c.args.l c.args.word code in
+    let whole : c.whole.result ≡ i =
+    c.whole.ensures ∙ ap (λ (p : Insn). record { qp = p.qp; op = whole_op c.args.l p.op }) same
+    ∙ whole_only i c.args.l c.args.word code in
     ap Some whole
 
 pub returns-in-Some-clause-beyond_word : goal.returns-in-Some-clause-beyond_word

@@ -14,5 +14,6 @@ returns-then-len-eq0 c =
 pub returns : goal.returns
 returns c =
     let first = first_violation_by c.args.first c.args.second c.args.rule c.args.resources.now in
-    let found = c.in_ok-resource.ensures.value ∙ ap (λ (l : List Resource). slice_get l 0) (c.as_slice.ensures.value ∙ c.resources-found.ensures) in
+    let found =
+    c.in_ok-resource.ensures.value ∙ ap (λ (l : List Resource). slice_get l 0) (c.as_slice.ensures.value ∙ c.resources-found.ensures) in
     rw (first, sym found) refl

@@ -12,6 +12,7 @@ abbrev pub invariant-loop-n : goal.invariant-loop-n
 invariant-loop-n l = record {
   total : l.report.total ≤ second_bound * place_number l.second + pair_bound * l.n;
   shown : length l.report.shown ≤ SHOWN_LIMIT;
-  reports : (p : Program) → HasWindow (over_program p) (is_stopped p.bundles) l.window l.second l.slot l.seconds → HasReported p l.fn.report (IsEarlier l.second) (second_bound * place_number l.second)
+  reports : (p : Program) → HasWindow (over_program p) (is_stopped p.bundles) l.window l.second l.slot l.seconds
+      → HasReported p l.fn.report (IsEarlier l.second) (second_bound * place_number l.second)
       → HasReported p l.report (IsEarlierPair l.window l.second l.n) (second_bound * place_number l.second + pair_bound * l.n);
 }

@@ -24,7 +24,9 @@ slots-init c =
     record {
       place = first_is_place p.bundles 0 (omega (arith, c.requires.program.counts.some));
       window = rw c.new-window.ensures (first_window (over_program p) (is_stopped p.bundles));
-      reports = bounded p r (IsEarlier (first_of 0)) 0 _ (omega arith) (none_reported p r (ap (λ (q : Report). q.total) c.empty-report.ensures) (ap (λ (q : Report). q.shown) c.empty-report.ensures));
+      reports =
+          bounded p r (IsEarlier (first_of 0)) 0 _ (omega arith) (none_reported p r (ap (λ (q : Report). q.total) c.empty-report.ensures)
+          (ap (λ (q : Report). q.shown) c.empty-report.ensures));
     }
 
 pub check_second-requires-clause-place : goal.check_second-requires-clause-place
@@ -43,7 +45,8 @@ pub slots-smaller : goal.slots-smaller
 slots-smaller c =
     let p = c.args.table.now in
     let j = c.slots.second in
-    let follows : next_of p.bundles j ≡ Some c.in-Some-next.after = sym (slot_next p j c.in-Some.slot.now (sym c.in-Some.ensures)) ∙ c.in-Some-next.is in
+    let follows : next_of p.bundles j ≡ Some c.in-Some-next.after =
+    sym (slot_next p j c.in-Some.slot.now (sym c.in-Some.ensures)) ∙ c.in-Some-next.is in
     let small : place_number j < place_bound = number_small p j c.requires.program c.slots.invariant.place in
     let up : place_number j < place_number c.in-Some-next.after = number_next p j c.in-Some-next.after c.slots.invariant.place follows in
     omega arith
@@ -63,8 +66,11 @@ slots-preserved c =
       window = c.in_ok-move_on.ensures (over_program p) (is_stopped p.bundles) next
           (rw c.at-in-slots.ensures (c.requires.facts j))
           (under_way p j s at c.slots.window c.masks_of-seconds.result c.masks_of-seconds.ensures c.slots.invariant.window) follows;
-      reports = next_reported p c.check_second.new.report j next _ (second_bound * place_number next) follows (omega (arith, c.slots.invariant.window.size, ap (length {A = EarlierSlot}) c.earlier_slots.ensures))
-          (c.in_ok-check_second.ensures p (under_way p j s at c.earlier_slots.result.now c.masks_of-seconds.result c.masks_of-seconds.ensures (rw c.earlier_slots.ensures c.slots.invariant.window)) c.slots.invariant.reports);
+      reports =
+          next_reported p c.check_second.new.report j next _ (second_bound * place_number next) follows
+          (omega (arith, c.slots.invariant.window.size, ap (length {A = EarlierSlot}) c.earlier_slots.ensures))
+          (c.in_ok-check_second.ensures p (under_way p j s at c.earlier_slots.result.now c.masks_of-seconds.result
+          c.masks_of-seconds.ensures (rw c.earlier_slots.ensures c.slots.invariant.window)) c.slots.invariant.reports);
     }
 
 pub returns-in_default-next : goal.returns-in_default-next
@@ -74,4 +80,5 @@ returns-in_default-next c =
     let s = c.in-Some.slot.now in
     let at = sym c.in-Some.ensures in
     all_reported p c.check_second.new.report j _ (sym (slot_next p j s at) ∙ c.in_default-next.is)
-    (c.in_ok-check_second.ensures p (under_way p j s at c.earlier_slots.result.now c.masks_of-seconds.result c.masks_of-seconds.ensures (rw c.earlier_slots.ensures c.slots.invariant.window)) c.slots.invariant.reports)
+    (c.in_ok-check_second.ensures p (under_way p j s at c.earlier_slots.result.now c.masks_of-seconds.result c.masks_of-seconds.ensures
+    (rw c.earlier_slots.ensures c.slots.invariant.window)) c.slots.invariant.reports)

@@ -17,5 +17,7 @@ returns-clause-reports c p bound u before =
     let es = c.args.window.now in
     let e = get_or es c.args.n c.index-window-n.result in
     pair_reported p c.args.report.now c.add_all.new.self es c.args.second c.args.n bound _ u.window before
-    (pair_listed (over_program p) (is_stopped p.bundles) es c.args.second c.args.n e c.pair_broken-broken.result (earlier_at es c.args.n c.index-window-n.result c.requires.inside) (c.pair_broken-broken.ensures (over_program p) (is_stopped p.bundles) c.args.second u))
+    (pair_listed (over_program p) (is_stopped p.bundles) es c.args.second c.args.n e c.pair_broken-broken.result
+    (earlier_at es c.args.n c.index-window-n.result c.requires.inside)
+    (c.pair_broken-broken.ensures (over_program p) (is_stopped p.bundles) c.args.second u))
     c.in_ok-add_all.ensures.few c.in_ok-add_all.ensures.total c.in_ok-add_all.ensures.shown

@@ -11,6 +11,8 @@ returns c g has_stop j is = record {
   place = refl;
   clears = refl;
   accesses = refl;
-  known = pairs_kept c.args.earlier.now.known (action_rule c.args.slot.now.action Falls c.args.slot.now.qp) c.requires ∙ slot_past g has_stop j c.args.slot.now is (pairs_of c.args.earlier.now.known);
+  known =
+      pairs_kept c.args.earlier.now.known (action_rule c.args.slot.now.action Falls c.args.slot.now.qp) c.requires
+      ∙ slot_past g has_stop j c.args.slot.now is (pairs_of c.args.earlier.now.known);
   written = refl;
 }

@@ -6,6 +6,7 @@ use Rattle.group_checker.proofs.moves.pass_all.Given as goal
 
 abbrev pub invariant-loop-m : goal.invariant-loop-m
 invariant-loop-m l = record {
-  advanced : (g : Graph) (has_stop : Place → Bool) (j : Place) → Describes g has_stop j l.slot → HasAdvanced g j l.mask l.initial.window.items l.window.items l.m;
+  advanced : (g : Graph) (has_stop : Place → Bool) (j : Place) → Describes g has_stop j l.slot
+      → HasAdvanced g j l.mask l.initial.window.items l.window.items l.m;
   passed : IsPassed l.slot l.passed;
 }

@@ -8,4 +8,5 @@ returns-then-are_apart c g has_stop j u = (λ h. absurd cc, λ x. absurd (c.are_
 pub returns : goal.returns
 returns c g has_stop j u =
     let (e, at) = some_at c.args.window.now c.args.n c.requires.inside in
-    pair_tested g has_stop c.args.window.now j c.args.n e c.pair_broken.result c.is_nothing.result at (c.pair_broken.ensures g has_stop j u) c.is_nothing.ensures.nothing c.is_nothing.ensures.something
+    pair_tested g has_stop c.args.window.now j c.args.n e c.pair_broken.result c.is_nothing.result at (c.pair_broken.ensures g has_stop j u)
+    c.is_nothing.ensures.nothing c.is_nothing.ensures.something

@@ -13,7 +13,8 @@ returns c =
 
 pub returns-in_default : goal.returns-in_default
 returns-in_default c = gains_nothing _ (Finds c.args.first.now (IsInSet c.args.a.now) (IsInSet c.args.b.now))
-    (λ v h. let found = sets_found c.args.first.now c.args.a.now c.args.b.now v h in let bad : None ≡ Some v.rule = sym c.in_default.is ∙ c.clash_of.ensures ∙ found.clash in absurd cc)
+    (λ v h. let found = sets_found c.args.first.now c.args.a.now c.args.b.now v h in
+    let bad : None ≡ Some v.rule = sym c.in_default.is ∙ c.clash_of.ensures ∙ found.clash in absurd cc)
 
 pub returns-then-is_excused : goal.returns-then-is_excused
 returns-then-is_excused c = gains_nothing _ (Finds c.args.first.now (IsInSet c.args.a.now) (IsInSet c.args.b.now))
@@ -21,5 +22,7 @@ returns-then-is_excused c = gains_nothing _ (Finds c.args.first.now (IsInSet c.a
     let found = sets_found c.args.first.now c.args.a.now c.args.b.now v h in
     let same : Some c.in-Some.rule ≡ Some v.rule = sym c.in-Some.is ∙ c.clash_of.ensures ∙ found.clash in
     let rule : c.in-Some.rule ≡ v.rule = cc in
-    let holds : (may_be_excused c.in-Some.rule && excused_by c.args.first.now c.args.a.now.guard c.args.b.now.guard) ≡ true = sym c.is_excused.ensures ∙ c.if-is_excused.true in
-    true≢false (sym holds ∙ ap (λ (r : Rule). may_be_excused r && excused_by c.args.first.now c.args.a.now.guard c.args.b.now.guard) rule ∙ found.stays))
+    let holds : (may_be_excused c.in-Some.rule && excused_by c.args.first.now c.args.a.now.guard c.args.b.now.guard) ≡ true =
+    sym c.is_excused.ensures ∙ c.if-is_excused.true in
+    true≢false (sym holds ∙ ap (λ (r : Rule). may_be_excused r && excused_by c.args.first.now c.args.a.now.guard c.args.b.now.guard) rule
+    ∙ found.stays))

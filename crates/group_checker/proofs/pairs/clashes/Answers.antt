@@ -22,12 +22,16 @@ loop-n-init c = gains_nothing c.args.broken.now _ (λ v h. not_in_none h.first h
 pub loop-n-preserved : goal.loop-n-preserved
 loop-n-preserved c =
     let xs = c.as_slice-named.result.now in
-    first_joined c.args.first.now (Contains c.args.seconds.now) (Contains (take c.loop-n.n xs)) _ (Contains (take (c.loop-n.n + 1) xs)) _ _ _
+    first_joined c.args.first.now (Contains c.args.seconds.now) (Contains (take c.loop-n.n xs)) _ (Contains (take (c.loop-n.n + 1) xs)) _ _
+    _
     (lists_joined (take c.loop-n.n xs) (c.index-named-n.result ∷ []) (take (c.loop-n.n + 1) xs)
-    (take_more xs c.loop-n.n c.index-named-n.result c.loop-n-test.true ∙ ap (λ (a : Access). take c.loop-n.n xs ++ a ∷ []) (sym c.index-named-n.is))) c.loop-n.invariant c.clashes_of.ensures
+    (take_more xs c.loop-n.n c.index-named-n.result c.loop-n-test.true
+    ∙ ap (λ (a : Access). take c.loop-n.n xs ++ a ∷ []) (sym c.index-named-n.is))) c.loop-n.invariant c.clashes_of.ensures
 
 pub returns : goal.returns
 returns c =
     let all = take_all c.loop-n.n c.as_slice-named.result.now (omega arith) ∙ c.as_slice-named.ensures.value in
-    first_joined c.args.first.now (Contains c.args.seconds.now) (Contains c.parts-parts.result.now.named.items) _ (Contains c.args.first.now.masks) _ _ _ (parts_joined c.args.first.now.masks c.parts-parts.result.now c.parts-parts.ensures)
-    (subst (λ (l : List Access). Gains c.args.broken.now c.loop-n.broken (Finds c.args.first.now (Contains l) (Contains c.args.seconds.now))) all c.loop-n.invariant) c.clashes_with.ensures
+    first_joined c.args.first.now (Contains c.args.seconds.now) (Contains c.parts-parts.result.now.named.items) _
+    (Contains c.args.first.now.masks) _ _ _ (parts_joined c.args.first.now.masks c.parts-parts.result.now c.parts-parts.ensures)
+    (subst (λ (l : List Access). Gains c.args.broken.now c.loop-n.broken
+    (Finds c.args.first.now (Contains l) (Contains c.args.seconds.now))) all c.loop-n.invariant) c.clashes_with.ensures

@@ -25,10 +25,13 @@ loop-n-preserved c =
     let xs = c.as_slice-named.result.now in
     second_joined c.args.first.now (IsInSet c.args.a.now) (Contains (take c.loop-n.n xs)) _ (Contains (take (c.loop-n.n + 1) xs)) _ _ _
     (lists_joined (take c.loop-n.n xs) (c.index-named-n.result ∷ []) (take (c.loop-n.n + 1) xs)
-    (take_more xs c.loop-n.n c.index-named-n.result c.loop-n-test.true ∙ ap (λ (a : Access). take c.loop-n.n xs ++ a ∷ []) (sym c.index-named-n.is))) c.loop-n.invariant c.clash_with.ensures
+    (take_more xs c.loop-n.n c.index-named-n.result c.loop-n-test.true
+    ∙ ap (λ (a : Access). take c.loop-n.n xs ++ a ∷ []) (sym c.index-named-n.is))) c.loop-n.invariant c.clash_with.ensures
 
 pub returns : goal.returns
 returns c =
     let all = take_all c.loop-n.n c.as_slice-named.result.now (omega arith) ∙ c.as_slice-named.ensures.value in
-    second_joined c.args.first.now (IsInSet c.args.a.now) (Contains c.parts-parts.result.now.named.items) _ (Contains c.args.seconds.now) _ _ _ (parts_joined c.args.seconds.now c.parts-parts.result.now c.parts-parts.ensures)
-    (subst (λ (l : List Access). Gains c.args.broken.now c.loop-n.broken (Finds c.args.first.now (IsInSet c.args.a.now) (Contains l))) all c.loop-n.invariant) c.clash_of_two.ensures
+    second_joined c.args.first.now (IsInSet c.args.a.now) (Contains c.parts-parts.result.now.named.items) _ (Contains c.args.seconds.now) _
+    _ _ (parts_joined c.args.seconds.now c.parts-parts.result.now c.parts-parts.ensures)
+    (subst (λ (l : List Access). Gains c.args.broken.now c.loop-n.broken (Finds c.args.first.now (IsInSet c.args.a.now) (Contains l))) all
+    c.loop-n.invariant) c.clash_of_two.ensures

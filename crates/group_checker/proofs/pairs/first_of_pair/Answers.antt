@@ -12,5 +12,6 @@ returns c g has_stop u =
     let es = c.args.window.now in
     let e = get_or es c.args.n c.index-window-n.result in
     pair_first g has_stop es c.args.second c.args.n _ c.first.result
-    (pair_listed g has_stop es c.args.second c.args.n e c.pair_broken.result (earlier_at es c.args.n c.index-window-n.result c.requires.inside) (c.pair_broken.ensures g has_stop c.args.second u))
+    (pair_listed g has_stop es c.args.second c.args.n e c.pair_broken.result
+    (earlier_at es c.args.n c.index-window-n.result c.requires.inside) (c.pair_broken.ensures g has_stop c.args.second u))
     c.first.ensures

@@ -13,7 +13,10 @@ pub loop-resource-preserved : goal.loop-resource-preserved
 loop-resource-preserved c =
     let of : Resource → Violation = λ q. record { second = c.args.second; first = c.args.first; rule = c.args.rule; resource = q } in
     record {
-      shown = shown_again SHOWN_LIMIT c.args.shown.now.items (map of (take c.loop-resource.resource-index c.args.resources.now)) _ c.loop-resource.shown.items c.show.new.shown.items c.loop-resource.invariant.shown c.in_ok-show.ensures
-          ∙ ap (λ (l : List Violation). take SHOWN_LIMIT (c.args.shown.now.items ++ l)) (sym (map_more of c.args.resources.now c.loop-resource.resource-index _ c.loop-resource-test.true));
+      shown =
+          shown_again SHOWN_LIMIT c.args.shown.now.items (map of (take c.loop-resource.resource-index c.args.resources.now)) _
+          c.loop-resource.shown.items c.show.new.shown.items c.loop-resource.invariant.shown c.in_ok-show.ensures
+          ∙ ap (λ (l : List Violation). take SHOWN_LIMIT (c.args.shown.now.items ++ l))
+          (sym (map_more of c.args.resources.now c.loop-resource.resource-index _ c.loop-resource-test.true));
       short = shown_short SHOWN_LIMIT c.show.new.shown.items _ c.in_ok-show.ensures;
     }

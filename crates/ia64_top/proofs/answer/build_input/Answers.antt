@@ -5,4 +5,5 @@ use Rattle.ia64_top.proofs.answer.build_input.Goals as goal
 
 pub returns-in-Err : goal.returns-in-Err
 returns-in-Err c =
-    if_ok c.refuse_text.result c.refuse_text.ensures (λ x a. is_refusal as_text Written c.args.input.now x.bytes.items x.status (c.in-Err.error, c.in-Err.ensures.fault a.0, a.1) a.2)
+    if_ok c.refuse_text.result c.refuse_text.ensures (λ x a. is_refusal as_text Written c.args.input.now x.bytes.items x.status
+    (c.in-Err.error, c.in-Err.ensures.fault a.0, a.1) a.2)

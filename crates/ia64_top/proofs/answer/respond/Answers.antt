@@ -5,4 +5,5 @@ use Rattle.ia64_top.proofs.answer.respond.Goals as goal
 
 pub returns-in-Watch-clause-watched : goal.returns-in-Watch-clause-watched
 returns-in-Watch-clause-watched g c =
-    on_ok_weaker c.watch_input.result (λ w. of_watch (λ n. HaveWatched n c.args.input.now _ _) c.in-Watch.groups c.args.command c.in-Watch.is w) c.watch_input.ensures.watched
+    on_ok_weaker c.watch_input.result (λ w. of_watch (λ n. HaveWatched n c.args.input.now _ _) c.in-Watch.groups c.args.command
+    c.in-Watch.is w) c.watch_input.ensures.watched

@@ -10,5 +10,8 @@ returns c =
     let p = c.args.accepted.now in
     let m = c.run-end.new.self.progress in
     let came : m ≡ groups_further c.args.groups p (begun (zero_state p)) = search rules in
-    let printed = c.in_ok-state_text.ensures ∙ text_of_progress c.progress_is_run.ensures.run c.args.groups p m c.run-end.result c.is_robust.ensures.program came c.run-end.ensures.end in
-    run_of_progress c.progress_is_run.ensures.run state_after c.args.groups p m c.run-end.result _ _ c.is_robust.ensures.program c.is_robust.ensures.free c.is_robust.ensures.robust came c.run-end.ensures.end printed c.end_status.ensures
+    let printed =
+    c.in_ok-state_text.ensures ∙ text_of_progress c.progress_is_run.ensures.run c.args.groups p m c.run-end.result
+    c.is_robust.ensures.program came c.run-end.ensures.end in
+    run_of_progress c.progress_is_run.ensures.run state_after c.args.groups p m c.run-end.result _ _ c.is_robust.ensures.program
+    c.is_robust.ensures.free c.is_robust.ensures.robust came c.run-end.ensures.end printed c.end_status.ensures

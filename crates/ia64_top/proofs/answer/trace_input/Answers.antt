@@ -12,4 +12,5 @@ returns-in-Ok-2 c =
     let same : c.in-Ok-2.accepted ≡ c.in-Ok.program = rw c.in-Ok-2.is at c.in_ok-accepted.ensures in
     let gives = subst (λ q. as_either.Gives c.args.input.now q) (sym same) read in
     if_ok c.trace_accepted.result c.trace_accepted.ensures
-    (λ x a. run_is (trace_text c.args.first c.args.count) (c.args.first + c.args.count) as_either c.args.input.now c.in-Ok-2.accepted x.bytes.items x.status gives a)
+    (λ x a. run_is (trace_text c.args.first c.args.count) (c.args.first + c.args.count) as_either c.args.input.now c.in-Ok-2.accepted
+    x.bytes.items x.status gives a)

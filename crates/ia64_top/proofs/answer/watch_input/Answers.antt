@@ -10,8 +10,10 @@ use Rattle.ia64_top.proofs.answer.watch_input.Goals as goal
 
 pub returns-in-Err-clause-watched : goal.returns-in-Err-clause-watched
 returns-in-Err-clause-watched g c =
-    let refused : IsRefusal as_either c.args.input.now c.in-Err.answer.bytes.items c.in-Err.answer.status = rw c.in-Err.is at c.in_ok-program.ensures in
-    λ p gives free. absurd (refused_not_run (either_refuses_none c.no_fault_where_spelled.ensures c.no_fault_where_read.ensures) c.args.input.now c.in-Err.answer.bytes.items c.in-Err.answer.status refused p gives free)
+    let refused : IsRefusal as_either c.args.input.now c.in-Err.answer.bytes.items c.in-Err.answer.status =
+    rw c.in-Err.is at c.in_ok-program.ensures in
+    λ p gives free. absurd (refused_not_run (either_refuses_none c.no_fault_where_spelled.ensures c.no_fault_where_read.ensures)
+    c.args.input.now c.in-Err.answer.bytes.items c.in-Err.answer.status refused p gives free)
 
 pub returns-in-Ok-2-clause-output : goal.returns-in-Ok-2-clause-output
 returns-in-Ok-2-clause-output g c =
@@ -26,7 +28,8 @@ returns-in-Ok-2-clause-watched g c =
     let read : as_either.Gives c.args.input.now c.in-Ok.program = rw c.in-Ok.is at c.in_ok-program.ensures in
     let same : c.in-Ok-2.accepted ≡ c.in-Ok.program = rw c.in-Ok-2.is at c.in_ok-accepted.ensures in
     let gives = subst (λ q. as_either.Gives c.args.input.now q) (sym same) read in
-    on_ok_weaker c.watch_accepted.result (have_watched (either_gives_one c.one_program.ensures c.one_text_program.ensures) c.args.groups c.args.input.now c.in-Ok-2.accepted _ _ gives) c.watch_accepted.ensures.stay
+    on_ok_weaker c.watch_accepted.result (have_watched (either_gives_one c.one_program.ensures c.one_text_program.ensures) c.args.groups
+    c.args.input.now c.in-Ok-2.accepted _ _ gives) c.watch_accepted.ensures.stay
 
 pub returns-in-Ok-2-clause-cut_short : goal.returns-in-Ok-2-clause-cut_short
 returns-in-Ok-2-clause-cut_short g c =
@@ -39,5 +42,7 @@ returns-in-Ok-2-clause-cut_short g c =
 pub returns-clause-watched : goal.returns-clause-watched
 returns-clause-watched g c =
     let read : as_either.Gives c.args.input.now c.in-Ok.program = rw c.in-Ok.is at c.in_ok-program.ensures in
-    let judged : IsJudgedViolated c.in-Ok.program c.in-Err-2.answer.bytes.items c.in-Err-2.answer.status = rw c.in-Err-2.is at c.in_ok-accepted.ensures in
-    λ p gives free. absurd (violated_not_run (either_gives_one c.one_program.ensures c.one_text_program.ensures) c.args.input.now c.in-Ok.program c.in-Err-2.answer.bytes.items c.in-Err-2.answer.status read judged p gives free)
+    let judged : IsJudgedViolated c.in-Ok.program c.in-Err-2.answer.bytes.items c.in-Err-2.answer.status =
+    rw c.in-Err-2.is at c.in_ok-accepted.ensures in
+    λ p gives free. absurd (violated_not_run (either_gives_one c.one_program.ensures c.one_text_program.ensures) c.args.input.now
+    c.in-Ok.program c.in-Err-2.answer.bytes.items c.in-Err-2.answer.status read judged p gives free)

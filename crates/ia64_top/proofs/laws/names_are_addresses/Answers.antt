@@ -10,8 +10,10 @@ same_number : (r1 a b : ℕ) → Some (op.Movl r1 a) ≡ Some (op.Movl r1 b) →
 same_number r1 a b e = cc
 
 pub returns-clause-bundles : goal.returns-clause-bundles
-returns-clause-bundles c p r1 imm m n x is e = subst (λ k. landing p k ≡ Some m) (same_number r1 (bundle_address m) x e) (c.addresses.ensures.entries p m is)
+returns-clause-bundles c p r1 imm m n x is e =
+    subst (λ k. landing p k ≡ Some m) (same_number r1 (bundle_address m) x e) (c.addresses.ensures.entries p m is)
 
 pub returns-clause-bytes : goal.returns-clause-bytes
 returns-clause-bytes c bytes r1 imm at n x below e =
-    subst (λ k. (access_fault bytes k 1 ≡ None) × (loaded bytes k 1 ≡ get_or bytes at 0)) (same_number r1 (data_address at) x e) (c.addresses.ensures.bytes bytes at below)
+    subst (λ k. (access_fault bytes k 1 ≡ None) × (loaded bytes k 1 ≡ get_or bytes at 0)) (same_number r1 (data_address at) x e)
+    (c.addresses.ensures.bytes bytes at below)

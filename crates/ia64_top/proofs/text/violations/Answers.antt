@@ -11,4 +11,5 @@ loop-violation-init c = c.in_ok-text.ensures.ok ∙ sym (append-nil _)
 
 pub loop-violation-preserved : goal.loop-violation-preserved
 loop-violation-preserved c =
-    grows (λ v. line (violation_text v)) _ _ _ _ (line (codes "violations " ++ decimal c.total-total.result)) _ _ c.shown-violation-items.ensures c.loop-violation-test.true c.in_ok-writeln.ensures.bytes c.loop-violation.invariant
+    grows (λ v. line (violation_text v)) _ _ _ _ (line (codes "violations " ++ decimal c.total-total.result)) _ _
+    c.shown-violation-items.ensures c.loop-violation-test.true c.in_ok-writeln.ensures.bytes c.loop-violation.invariant

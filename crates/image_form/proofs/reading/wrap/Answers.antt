@@ -16,4 +16,10 @@ pub program-requires-clause-counts : goal.program-requires-clause-counts
 program-requires-clause-counts c =
     let counts : AreInRange (length c.args.bytes.now / 16) 0 0 0 = search rules in
     let whole : length c.args.bytes.now % 16 ≡ 0 = search rules in
-    raw_counts (record { bundles = c.in_ok-bundles.bundles.items; entries = c.new.result.items; bytes = c.new-2.result.items; relations = c.new-3.result.items }) c.args.bytes.now whole counts c.in_ok-bundles.ensures.found c.new.ensures.items c.new-2.ensures.items c.new-3.ensures.items
+    raw_counts (record {
+      bundles = c.in_ok-bundles.bundles.items;
+      entries = c.new.result.items;
+      bytes = c.new-2.result.items;
+      relations = c.new-3.result.items;
+    }) c.args.bytes.now whole counts c.in_ok-bundles.ensures.found c.new.ensures.items
+    c.new-2.ensures.items c.new-3.ensures.items

@@ -13,4 +13,6 @@ returns-in_err-slots-clause-fault c =
     let t : c.in_ok-template.template ≡ raw.template = search rules in
     let is : IsTemplate raw.template = search rules in
     let p = err_from_is_err_and c.from_residual-in_err-slots.result c.from_residual-in_err-slots.ensures.1 in
-    rw (p.1, p.2) (slot_fault c.args.bytes.now raw c.in_err-slots.field-0.0 _ (record { widths = c.split-raw.ensures.parts; number = c.split-raw.ensures.number }) is (three_items M c.units.result n ∙ c.units.ensures ∙ ap units_of t) c.in_err-slots.ensures.fault)
+    rw (p.1, p.2) (slot_fault c.args.bytes.now raw c.in_err-slots.field-0.0 _
+    (record { widths = c.split-raw.ensures.parts; number = c.split-raw.ensures.number }) is
+    (three_items M c.units.result n ∙ c.units.ensures ∙ ap units_of t) c.in_err-slots.ensures.fault)

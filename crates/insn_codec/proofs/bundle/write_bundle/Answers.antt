@@ -15,7 +15,9 @@ returns c =
     let widths : HasWidths (parts c.code.result c.write_slots.result) = search rules in
     let are : AreBytes c.join.result = search rules in
     let is : IsTemplate c.args.bundle.now.template = search rules in
-    let stand = subst (λ (l : List ExecutionUnit). StandIn l c.slots.result.now c.write_slots.result) (three_items M c.units.result n ∙ c.units.ensures ∙ ap units_of t) c.write_slots.ensures.stand in
+    let stand =
+    subst (λ (l : List ExecutionUnit). StandIn l c.slots.result.now c.write_slots.result)
+    (three_items M c.units.result n ∙ c.units.ensures ∙ ap units_of t) c.write_slots.ensures.stand in
     record {
       raw = parts c.code.result c.write_slots.result;
       parts = record { widths = widths; number = sym c.join.ensures.number };

@@ -21,7 +21,8 @@ returns-then-read_row-clause-found c =
 pub returns-else-read_row-clause-only : goal.returns-else-read_row-clause-only
 returns-else-read_row-clause-only c = λ i code.
     let P : List Value → Type 0 = λ xs. HasWord c.args.row.now xs in
-    let none : HasWord c.args.row.now (read (operands c.args.row.now) c.args.word) → ⊥ = λ has. let t = c.read_row.ensures.has.1 (subst P (sym c.read_row.ensures.values) has) in absurd (cc) in
+    let none : HasWord c.args.row.now (read (operands c.args.row.now) c.args.word) → ⊥ =
+    λ has. let t = c.read_row.ensures.has.1 (subst P (sym c.read_row.ensures.values) has) in absurd (cc) in
     absurd (no_values c.args.row.now i c.args.word c.requires.made none code)
 
 pub returns-then-read_row-clause-only : goal.returns-then-read_row-clause-only

@@ -16,8 +16,11 @@ word_by-requires-clause-made c =
 
 pub returns-in-None-clause-listed : goal.returns-in-None-clause-listed
 returns-in-None-clause-listed c =
-    let P : Option ℕ → Type 0 = λ p. IsRowIndexOf c.args.rows.now p (opcode_of c.args.insn.now.op) in
-    (λ h. absurd (cc), λ l. absurd (no_row_index c.args.rows.now c.args.insn.now l.0 no_row (subst P c.in-None.is c.requires.row_index) l.1))
+    let P : Option ℕ → Type 0 = λ p. IsRowIndexOf c.args.rows.now p (opcode_of c.args.insn.now.op) in (
+      λ h. absurd (cc),
+      λ l. absurd (no_row_index c.args.rows.now c.args.insn.now l.0 no_row (subst P c.in-None.is c.requires.row_index)
+          l.1),
+    )
 
 pub returns-in-None-clause-only : goal.returns-in-None-clause-only
 returns-in-None-clause-only c = λ w code.

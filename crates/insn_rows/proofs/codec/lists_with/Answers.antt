@@ -13,9 +13,13 @@ has_word-requires c =
 pub returns-in-Some : goal.returns-in-Some
 returns-in-Some c =
     let P : Option ℕ → Type 0 = λ p. IsRowIndexOf c.args.rows.now p (opcode_of c.args.insn.now.op) in
-    listed_values c.args.rows.now c.in-Some.n _ c.args.insn.now _ c.has_word.result (subst P c.in-Some.is c.requires.row_index) c.values_of.ensures c.has_word.ensures
+    listed_values c.args.rows.now c.in-Some.n _ c.args.insn.now _ c.has_word.result (subst P c.in-Some.is c.requires.row_index)
+    c.values_of.ensures c.has_word.ensures
 
 pub returns-in-None : goal.returns-in-None
 returns-in-None c =
-    let P : Option ℕ → Type 0 = λ p. IsRowIndexOf c.args.rows.now p (opcode_of c.args.insn.now.op) in
-    (λ h. absurd (cc), λ l. absurd (no_row_index c.args.rows.now c.args.insn.now l.0 no_row (subst P c.in-None.is c.requires.row_index) l.1))
+    let P : Option ℕ → Type 0 = λ p. IsRowIndexOf c.args.rows.now p (opcode_of c.args.insn.now.op) in (
+      λ h. absurd (cc),
+      λ l. absurd (no_row_index c.args.rows.now c.args.insn.now l.0 no_row (subst P c.in-None.is c.requires.row_index)
+          l.1),
+    )

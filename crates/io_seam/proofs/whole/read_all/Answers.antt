@@ -13,7 +13,8 @@ returns-then-count-room-clause-too_long g c =
     let all : length front + c.in-Ok.count ≡ c.args.limit + 1 =
     omega (arith, came.within, length-take (c.min-wanted.result + 1) c.loop-count.piece) in
     exactly_where old _ _ refl
-    (LosesFirst-next old mid new front c.take.new.piece c.in-Ok.count (c.args.limit + 1) came.within all c.loop-count.invariant.so_far came.taken)
+    (LosesFirst-next old mid new front c.take.new.piece c.in-Ok.count (c.args.limit + 1) came.within all c.loop-count.invariant.so_far
+    came.taken)
 
 pub returns-then-count-room-clause-taken : goal.returns-then-count-room-clause-taken
 returns-then-count-room-clause-taken g c =
@@ -25,7 +26,8 @@ returns-then-count-room-clause-taken g c =
     let all : length front + c.in-Ok.count ≡ c.args.limit + 1 =
     omega (arith, came.within, length-take (c.min-wanted.result + 1) c.loop-count.piece) in
     at_most old new (c.args.limit + 1) (c.args.limit + 1) (le_refl _)
-    (LosesFirst-next old mid new front c.take.new.piece c.in-Ok.count (c.args.limit + 1) came.within all c.loop-count.invariant.so_far came.taken)
+    (LosesFirst-next old mid new front c.take.new.piece c.in-Ok.count (c.args.limit + 1) came.within all c.loop-count.invariant.so_far
+    came.taken)
 
 -- What came is within the limit, and there was no memory for it.
 pub returns-in_err-map_err-clause-taken : goal.returns-in_err-map_err-clause-taken

@@ -9,7 +9,9 @@ loop-given-preserved g c =
     let now = c.in-Ok.ensures in
     record {
       within = search rules;
-      so_far = Appends-next (given c.args.sink.now) (given c.loop-given.sink) (given c.give.new.self) c.args.bytes.now c.loop-given.given c.in-Ok.count (search rules) before.so_far now.appended;
+      so_far =
+          Appends-next (given c.args.sink.now) (given c.loop-given.sink)
+          (given c.give.new.self) c.args.bytes.now c.loop-given.given c.in-Ok.count (search rules) before.so_far now.appended;
       told = (λ h. now.told.0 (before.told.0 h), λ h. before.told.1 (now.told.1 h));
       unchanged_faults = now.unchanged_faults ∙ before.unchanged_faults;
     }

@@ -2,4 +2,9 @@ use Rattle.loose_text.proofs.OneLoose.{none_where_read}
 use Rattle.loose_text.proofs.laws.no_loose_fault_where_read.Goals as goal
 
 pub returns : goal.returns
-returns c = none_where_read (record { value = c.a_line_has_one_answer.ensures.value; fault = c.a_line_has_one_answer.ensures.fault; either = c.a_line_has_one_answer.ensures.either })
+returns c =
+    none_where_read (record {
+      value = c.a_line_has_one_answer.ensures.value;
+      fault = c.a_line_has_one_answer.ensures.fault;
+      either = c.a_line_has_one_answer.ensures.either;
+    })

@@ -2,4 +2,9 @@ use Rattle.loose_text.proofs.OneLoose.{one_loose}
 use Rattle.loose_text.proofs.laws.one_loose_text.Goals as goal
 
 pub returns : goal.returns
-returns c = one_loose (record { value = c.a_line_has_one_answer.ensures.value; fault = c.a_line_has_one_answer.ensures.fault; either = c.a_line_has_one_answer.ensures.either })
+returns c =
+    one_loose (record {
+      value = c.a_line_has_one_answer.ensures.value;
+      fault = c.a_line_has_one_answer.ensures.fault;
+      either = c.a_line_has_one_answer.ensures.either;
+    })

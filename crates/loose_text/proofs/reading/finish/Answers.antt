@@ -21,7 +21,8 @@ returns-in_err-related-clause-err c =
     let entries : c.deref-3.result.now ≡ (loose_of s).entries = search rules in
     let lines : c.relations.result.now ≡ s.declared.relations = search rules in
     let fault : (c.in_err-related.field-0.0 ≡ error.Memory) ⊎ IsFirstFault (end_stages c.args.lines.count s) c.in_err-related.field-0.0 =
-    relation_reported s c.args.lines.count c.deref-2.result.now c.deref-3.result.now c.relations.result.now c.in_err-related.field-0.0 items entries lines below some c.in_ok-named.ensures.ok.0 c.in_err-related.ensures.err in
+    relation_reported s c.args.lines.count c.deref-2.result.now c.deref-3.result.now c.relations.result.now c.in_err-related.field-0.0 items
+    entries lines below some c.in_ok-named.ensures.ok.0 c.in_err-related.ensures.err in
     search (rules, fault)
 
 pub of_parts-requires : goal.of_parts-requires
@@ -34,13 +35,22 @@ of_parts-requires c =
     let lines : c.relations.result.now ≡ s.declared.relations = search rules in
     let held_items : c.deref-2.result.now ≡ c.in_ok-items.items.items = search rules in
     let held_entries : c.deref-3.result.now ≡ c.in_ok-entries.entries.items = search rules in
-    let few : length (items_of s.items) ≤ 3 * BUNDLE_LIMIT = rw (sym c.parts.view_is) (are_few _ c.parts.inside.packing c.parts.invariant) in
-    let within : length (plain_of (items_of s.items)) ≤ BUNDLE_LIMIT = rw (sym c.parts.view_is) (are_within _ c.parts.inside.packing c.parts.invariant) in
-    let related : AreRelated s = related_of s c.deref-2.result.now c.deref-3.result.now c.relations.result.now items entries lines c.in_ok-related.ensures.ok.0 in
+    let few : length (items_of s.items) ≤ 3 * BUNDLE_LIMIT =
+    rw (sym c.parts.view_is) (are_few _ c.parts.inside.packing c.parts.invariant) in
+    let within : length (plain_of (items_of s.items)) ≤ BUNDLE_LIMIT =
+    rw (sym c.parts.view_is) (are_within _ c.parts.inside.packing c.parts.invariant) in
+    let related : AreRelated s =
+    related_of s c.deref-2.result.now c.deref-3.result.now c.relations.result.now items entries lines c.in_ok-related.ensures.ok.0 in
     let good : AreRelationsOf (IsItemEntry c.in_ok-items.items.items c.in_ok-entries.entries.items) c.in_ok-relations.relations.items =
     rw (sym held_items, sym held_entries, c.in_ok-relations.ensures) c.in_ok-related.ensures.good in
     λ bytes. parts_are_loose s
-    (record { items = c.in_ok-items.items.items; targets = c.in_ok-named.named.targets.items; entries = c.in_ok-entries.entries.items; relations = c.in_ok-relations.relations.items; bytes = c.in_ok-bytes.bytes.items })
+    (record {
+      items = c.in_ok-items.items.items;
+      targets = c.in_ok-named.named.targets.items;
+      entries = c.in_ok-entries.entries.items;
+      relations = c.in_ok-relations.relations.items;
+      bytes = c.in_ok-bytes.bytes.items;
+    })
     (sym held_items ∙ items)
     c.in_ok-named.ensures.ok.1
     (sym held_entries ∙ entries)

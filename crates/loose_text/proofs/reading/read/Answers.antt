@@ -13,4 +13,5 @@ finish-requires-clause-sound c = all_sound c.args.text.now c.in_ok-lines.lines.p
 
 pub returns-clause-fault : goal.returns-clause-fault
 returns-clause-fault c =
-    end_reported loose_reading c.args.text.now c.in_ok-lines.lines.parts c.in_ok-lines.lines.count c.finish.result c.in_ok-lines.ensures.ok.0 c.in_ok-lines.ensures.ok.1 c.finish.ensures.err
+    end_reported loose_reading c.args.text.now c.in_ok-lines.lines.parts c.in_ok-lines.lines.count c.finish.result
+    c.in_ok-lines.ensures.ok.0 c.in_ok-lines.ensures.ok.1 c.finish.ensures.err

@@ -5,8 +5,10 @@ use Rattle.loose_text.proofs.reading.take_line.Goals as goal
 
 pub returns-in-Ok-clause-ok : goal.returns-in-Ok-clause-ok
 returns-in-Ok-clause-ok c =
-    is_taken loose_reading c.args.parts.now c.take.new.self c.args.n c.args.line.now c.read_line_into.new.value c.take.result (omega (arith, c.if-line-gt-LINE_LIMIT.false)) c.in-Ok.ensures.ok c.take.ensures.ok
+    is_taken loose_reading c.args.parts.now c.take.new.self c.args.n c.args.line.now c.read_line_into.new.value c.take.result
+    (omega (arith, c.if-line-gt-LINE_LIMIT.false)) c.in-Ok.ensures.ok c.take.ensures.ok
 
 pub returns-in-Ok-clause-err : goal.returns-in-Ok-clause-err
 returns-in-Ok-clause-err c =
-    is_refused loose_reading c.args.parts.now c.args.n c.args.line.now c.read_line_into.new.value c.take.result (omega (arith, c.if-line-gt-LINE_LIMIT.false)) c.in-Ok.ensures.ok c.take.ensures.err
+    is_refused loose_reading c.args.parts.now c.args.n c.args.line.now c.read_line_into.new.value c.take.result
+    (omega (arith, c.if-line-gt-LINE_LIMIT.false)) c.in-Ok.ensures.ok c.take.ensures.err

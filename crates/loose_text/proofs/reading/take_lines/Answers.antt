@@ -12,9 +12,11 @@ returns-in_err-take_line-clause-err c =
     let before = c.loop-line.parts in
     let line = c.in-Some.line.now in
     let all = text_lines c.args.text.now in
-    let go : (r : Result LooseParts TextError) → ComesToBy loose_reading before (c.loop-line.count + 1) (line ∷ c.next.new.self) r → ComesToBy loose_reading start 1 all r = rw c.in-Some.ensures.steps at c.loop-line.invariant.1 in
+    let go : (r : Result LooseParts TextError) → ComesToBy loose_reading before (c.loop-line.count + 1) (line ∷ c.next.new.self) r
+    → ComesToBy loose_reading start 1 all r = rw c.in-Some.ensures.steps at c.loop-line.invariant.1 in
     let fault : (c.in_err-take_line.field-0.0 ≡ error.Memory) ⊎ ComesToBy loose_reading start 1 all (Err c.in_err-take_line.field-0.0) =
-    refused_after loose_reading before start (c.loop-line.count + 1) line c.next.new.self all c.in_err-take_line.field-0.0 go c.in_err-take_line.ensures.err in
+    refused_after loose_reading before start (c.loop-line.count + 1) line c.next.new.self all c.in_err-take_line.field-0.0 go
+    c.in_err-take_line.ensures.err in
     search (rules, fault)
 
 pub loop-line-preserved : goal.loop-line-preserved
@@ -23,5 +25,9 @@ loop-line-preserved c =
     let line = c.in-Some.line.now in
     let all = text_lines c.args.text.now in
     let count : c.loop-line.count + length (line ∷ c.next.new.self) ≡ length all = rw c.in-Some.ensures.steps at c.loop-line.invariant.0 in
-    let go : (r : Result LooseParts TextError) → ComesToBy loose_reading before (c.loop-line.count + 1) (line ∷ c.next.new.self) r → ComesToBy loose_reading start 1 all r = rw c.in-Some.ensures.steps at c.loop-line.invariant.1 in
-    (omega (arith, count), λ r rest. go r (one_more loose_reading before c.take_line.new.parts (c.loop-line.count + 1) line c.next.new.self r c.in_ok-take_line.ensures.ok rest))
+    let go : (r : Result LooseParts TextError) → ComesToBy loose_reading before (c.loop-line.count + 1) (line ∷ c.next.new.self) r
+    → ComesToBy loose_reading start 1 all r = rw c.in-Some.ensures.steps at c.loop-line.invariant.1 in (
+      omega (arith, count),
+      λ r rest. go r (one_more loose_reading before c.take_line.new.parts (c.loop-line.count + 1) line c.next.new.self
+          r c.in_ok-take_line.ensures.ok rest),
+    )

@@ -7,7 +7,9 @@ use Rattle.predicate_rel.proofs.BitLemmas.{none_less, some_less}
 use Rattle.predicate_rel.proofs.bits.is_within.Goals as goal
 
 pub returns-clause-within : goal.returns-clause-within
-returns-clause-within c = OnTrue_from _ ((y : ℕ) → y < 64 → has_bit c.args.a y ≡ true → has_bit c.args.b y ≡ true) (λ e. none_less c.args.a c.args.b (omega arith) (eqb-true _ _ e))
+returns-clause-within c =
+    OnTrue_from _ ((y : ℕ) → y < 64 → has_bit c.args.a y ≡ true → has_bit c.args.b y ≡ true)
+    (λ e. none_less c.args.a c.args.b (omega arith) (eqb-true _ _ e))
 
 pub returns-clause-more : goal.returns-clause-more
 returns-clause-more c = OnFalse_from _ ((y : ℕ) × (y < 64) × (has_bit c.args.a y ≡ true) × (has_bit c.args.b y ≡ false)) (λ e.

@@ -8,4 +8,5 @@ pub returns-in_default : goal.returns-in_default
 returns-in_default c g x f l none apart guard y m = absurd (true≢false (sym (has_bit_all x l) ∙ none))
 
 pub returns-then-keeps_pairs : goal.returns-then-keeps_pairs
-returns-then-keeps_pairs c g x f l none apart guard y m = ap (λ (r : PairRule). is_met r f) (c.keeps_pairs.ensures c.if-keeps_pairs.true g x y)
+returns-then-keeps_pairs c g x f l none apart guard y m =
+    ap (λ (r : PairRule). is_met r f) (c.keeps_pairs.ensures c.if-keeps_pairs.true g x y)

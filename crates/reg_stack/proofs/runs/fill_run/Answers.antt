@@ -25,7 +25,8 @@ loop-low-preserved c =
     let next : low + 1 ≡ c.loop-low.low = omega arith in
     let place_is : place ≡ low % 96 = place_in_turn low last (omega arith) in
     let seen : cell ≡ spilled_cell old low = rw c.nat_of.ensures (spilled_there region c.loop-low.nats at (omega arith)) in
-    let filled : set ring place cell ≡ set ring (low % 96) (spilled_cell old low) = ap (λ p. set ring p cell) place_is ∙ ap (λ x. set ring (low % 96) x) seen in
+    let filled : set ring place cell ≡ set ring (low % 96) (spilled_cell old low) =
+    ap (λ p. set ring p cell) place_is ∙ ap (λ x. set ring (low % 96) x) seen in
     let free : IsFreeFrom old (low + 1) = rw next c.loop-low.invariant.free in
     record {
       order = omega arith;

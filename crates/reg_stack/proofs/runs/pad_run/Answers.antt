@@ -13,7 +13,9 @@ loop-c-preserved c =
     let at = c.loop-c.c in
     let place = at - 96 * (c.args.from / 96) in
     let old = c.loop-c.invariant in
-    let padded : set ring place c.zero_cell.result ≡ set ring (at % 96) zero_cell = ap (λ p. set ring p c.zero_cell.result) (place_in_turn at c.args.from (omega arith)) ∙ ap (λ x. set ring (at % 96) x) c.zero_cell.ensures in
+    let padded : set ring place c.zero_cell.result ≡ set ring (at % 96) zero_cell =
+    ap (λ p. set ring p c.zero_cell.result) (place_in_turn at c.args.from (omega arith))
+    ∙ ap (λ x. set ring (at % 96) x) c.zero_cell.ensures in
     record {
       size = length-set ring place c.zero_cell.result ∙ old.size;
       kept = λ d h k. ap (λ x. resident_cell x d) padded ∙ pad_kept ring at d (omega arith) (omega arith) ∙ old.kept d h k;

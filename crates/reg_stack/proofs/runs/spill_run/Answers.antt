@@ -19,7 +19,8 @@ loop-c-preserved c =
     record { this = c.with_nat-nats.ensures.this; others = c.with_nat-nats.ensures.others } in
     let old = with_nats c.loop-c.region first c.loop-c.nats in
     let new = with_nats (set c.loop-c.region word cell.value) first c.with_nat-nats.result in
-    let written : IsPut old new at cell = put_there c.loop-c.region cell c.loop-c.nats c.with_nat-nats.result (in_run first at (omega arith)) (omega arith) nats in
+    let written : IsPut old new at cell =
+    put_there c.loop-c.region cell c.loop-c.nats c.with_nat-nats.result (in_run first at (omega arith)) (omega arith) nats in
     let seen : cell ≡ resident_cell ring at = ap (λ p. get_or ring p zero_cell) (place_in_turn at first (omega arith)) in
     let put : IsPut old new at (resident_cell ring at) = subst (λ x. IsPut old new at x) seen written in
     record {

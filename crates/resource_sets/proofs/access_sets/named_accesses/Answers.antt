@@ -11,12 +11,22 @@ returns c =
     let qp = c.args.qp in
     let f = c.args.action.now in
     let e : c.push_all-2.new.out.items ≡ listed qp (rows_by_name qp f) =
-    rw (c.push_all-2.ensures.items, c.push_all.ensures.items, c.push.ensures.items, c.new-out.ensures, c.frame_row.ensures, c.qp_rows.ensures.rows, c.as_slice-2.ensures.value, c.own_rows-own.ensures.rows) (sym (by_name qp f)) in
+    rw (
+      c.push_all-2.ensures.items,
+      c.push_all.ensures.items,
+      c.push.ensures.items,
+      c.new-out.ensures,
+      c.frame_row.ensures,
+      c.qp_rows.ensures.rows,
+      c.as_slice-2.ensures.value,
+      c.own_rows-own.ensures.rows,
+    ) (sym (by_name qp f)) in
     record {
       items = e;
       within = subst AreInRange (sym e) (within_listed qp (rows_by_name qp f) (
         tt,
         within_append (qp_rows qp f) (own_rows f)
-            (subst AreNumbersInRange c.qp_rows.ensures.rows c.qp_rows.ensures.within) (subst AreNumbersInRange c.own_rows-own.ensures.rows c.own_rows-own.ensures.within),
+            (subst AreNumbersInRange c.qp_rows.ensures.rows c.qp_rows.ensures.within)
+            (subst AreNumbersInRange c.own_rows-own.ensures.rows c.own_rows-own.ensures.within),
       ));
     }

@@ -9,5 +9,6 @@ pub returns : goal.returns
 returns c =
     let qp = c.args.qp in
     let f = c.args.action.now in
-    let e : c.push_all.new.out.items ≡ listed qp (placed_rows f) = rw (c.push_all.ensures.items, c.new-out.ensures, c.as_slice.ensures.value, c.placed_rows.ensures) refl in
+    let e : c.push_all.new.out.items ≡ listed qp (placed_rows f) =
+    rw (c.push_all.ensures.items, c.new-out.ensures, c.as_slice.ensures.value, c.placed_rows.ensures) refl in
     record { items = e; within = subst AreInRange (sym e) (within_listed qp (placed_rows f) (placed_within f)) }

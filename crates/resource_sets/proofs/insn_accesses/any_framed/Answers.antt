@@ -6,4 +6,5 @@ use Rattle.resource_sets.proofs.insn_accesses.any_framed.Goals as goal
 
 pub returns : goal.returns
 returns c =
-    any_from_yields_List (λ row. is_framed row.resource) _ _ _ c.any.ensures.ran (YieldsList-from_slice c.args.rows.now cc) (λ x b q k. search (rules, tests))
+    any_from_yields_List (λ row. is_framed row.resource) _ _ _ c.any.ensures.ran (YieldsList-from_slice c.args.rows.now cc)
+    (λ x b q k. search (rules, tests))

@@ -11,4 +11,5 @@ returns-clause-items c =
     let n = c.args.n in
     let there : c.bit.result ≡ bit c.args.mask (min n 16) = c.bit.ensures ∙ ap (λ (k : ℕ). bit c.args.mask k) c.min.ensures in
     let row : c.pr-row.result ≡ pr true n c.args.kind = c.pr-row.ensures.row ∙ ap (λ (k : ℕ). pr true k c.args.kind) c.of_field.ensures in
-    rw c.push.ensures.items (place_step c.args.out.now.items n c.args.mask c.args.kind _ c.requires.most (ap (λ (r : AccessRow). record r { there = c.bit.result }) row ∙ rw there (cc)))
+    rw c.push.ensures.items (place_step c.args.out.now.items n c.args.mask c.args.kind _ c.requires.most
+    (ap (λ (r : AccessRow). record r { there = c.bit.result }) row ∙ rw there (cc)))

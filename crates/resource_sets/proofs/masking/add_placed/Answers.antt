@@ -20,7 +20,8 @@ resources_of-requires c = subst AreInRange (sym c.as_slice-2.ensures.value) c.pl
 pub returns-in_default : goal.returns-in_default
 returns-in_default c =
     let f = c.args.action.now in
-    let none : placed_rows f ≡ [] = subst (λ (o : Option Kind). ArePlaced o (placed_rows f)) (sym c.placed_kind.ensures ∙ c.in_default.is) (placed_alike f) in
+    let none : placed_rows f ≡ [] =
+    subst (λ (o : Option Kind). ArePlaced o (placed_rows f)) (sym c.placed_kind.ensures ∙ c.in_default.is) (placed_alike f) in
     rw none (record { sums = λ earlier h. rw (append-nil earlier) h; set = c.empty.ensures })
 
 pub returns : goal.returns
@@ -29,7 +30,10 @@ returns c =
     let f = c.args.action.now in
     let alike = subst (λ (o : Option Kind). ArePlaced o (placed_rows f)) (sym c.placed_kind.ensures ∙ c.in-Some.is) (placed_alike f) in
     record {
-      sums = λ earlier h. subst (λ (l : List Access). IsSummary (earlier ++ l) c.add_all.new.self) (c.as_slice.ensures.value ∙ c.placed_accesses-accesses.ensures.items) (c.add_all.ensures earlier h);
+      sums =
+          λ earlier h. subst (λ (l : List Access). IsSummary (earlier ++ l) c.add_all.new.self)
+          (c.as_slice.ensures.value ∙ c.placed_accesses-accesses.ensures.items) (c.add_all.ensures earlier h);
       set = set_of (listed qp (placed_rows f)) _ (in_alike qp c.in-Some.kind (placed_rows f) alike)
-          (λ q. c.resources_of.ensures q ∙ ap (λ (l : List Access). list_any (λ a. is_resource a.resource q) l) (c.as_slice-2.ensures.value ∙ c.placed_accesses-accesses.ensures.items));
+          (λ q. c.resources_of.ensures q ∙ ap (λ (l : List Access). list_any (λ a. is_resource a.resource q) l)
+          (c.as_slice-2.ensures.value ∙ c.placed_accesses-accesses.ensures.items));
     }

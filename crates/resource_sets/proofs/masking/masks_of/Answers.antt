@@ -12,9 +12,12 @@ add_all-requires c = rw c.as_slice.ensures.value c.named_accesses-named.ensures.
 pub invariant_of-result : goal.invariant_of-result
 invariant_of-result c =
     let placed = listed c.args.qp (placed_rows c.args.action.now) in
-    let all : accesses_of c.args.qp c.args.action.now ≡ c.named_accesses-named.result.items ++ placed = in_two c.args.qp c.args.action.now ∙ ap (λ (l : List Access). l ++ placed) (sym c.named_accesses-named.ensures.items) in
+    let all : accesses_of c.args.qp c.args.action.now ≡ c.named_accesses-named.result.items ++ placed =
+    in_two c.args.qp c.args.action.now ∙ ap (λ (l : List Access). l ++ placed) (sym c.named_accesses-named.ensures.items) in
     record {
       parts = record { placed = placed; all = all; set = c.add_placed-placed.ensures.set; within = c.named_accesses-named.ensures.within };
-      sums = subst (λ (l : List Access). IsSummary l c.add_placed-placed.new.summary) (ap (λ (l : List Access). l ++ placed) c.as_slice.ensures.value ∙ sym all)
+      sums =
+          subst (λ (l : List Access). IsSummary l c.add_placed-placed.new.summary)
+          (ap (λ (l : List Access). l ++ placed) c.as_slice.ensures.value ∙ sym all)
           (c.add_placed-placed.ensures.sums _ (c.add_all.ensures _ c.none-summary.ensures));
     }

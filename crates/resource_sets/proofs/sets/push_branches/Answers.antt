@@ -10,9 +10,11 @@ pub loop-b-preserved : goal.loop-b-preserved
 loop-b-preserved c = record {
   told = c.loop-b.invariant.told
       ∙ number_more (has_resource c.args.set.now) Br c.loop-b.out.items 8 c.loop-b.b (omega arith)
-      ∙ ap (λ (l : List Resource). l ++ filter (has_resource c.args.set.now) (numbered Br (8 - (c.loop-b.b + 1)) (c.loop-b.b + 1))) (sym c.push_if.ensures.items);
+      ∙ ap (λ (l : List Resource). l ++ filter (has_resource c.args.set.now) (numbered Br (8 - (c.loop-b.b + 1)) (c.loop-b.b + 1)))
+      (sym c.push_if.ensures.items);
   len = omega (arith, c.loop-b.invariant.len, c.push_if.ensures.len);
 }
 
 pub returns-clause-items : goal.returns-clause-items
-returns-clause-items c = sym (c.loop-b.invariant.told ∙ number_none (has_resource c.args.set.now) Br c.loop-b.out.items 8 c.loop-b.b (omega arith))
+returns-clause-items c =
+    sym (c.loop-b.invariant.told ∙ number_none (has_resource c.args.set.now) Br c.loop-b.out.items 8 c.loop-b.b (omega arith))

@@ -6,5 +6,9 @@ use Rattle.state_lines.proofs.general_registers.push_general_registers.Goals as 
 
 pub loop-n-preserved : goal.loop-n-preserved
 loop-n-preserved g c =
-    let after = rw c.of_field.ensures at c.in_ok-push_general.ensures in
-    (omega arith, one_more (gr_line (g.S.StateView.registers c.args.seen.now)) 1 (c.loop-n.n - 1) c.loop-n.n (c.loop-n.n + 1 - 1) (string_bytes c.args.out.now) (string_bytes c.loop-n.out) (string_bytes c.push_general.new.out) (omega arith) (omega arith) c.loop-n.invariant.1 after)
+    let after = rw c.of_field.ensures at c.in_ok-push_general.ensures in (
+      omega arith,
+      one_more (gr_line (g.S.StateView.registers c.args.seen.now)) 1 (c.loop-n.n - 1) c.loop-n.n (c.loop-n.n + 1 - 1)
+          (string_bytes c.args.out.now) (string_bytes c.loop-n.out) (string_bytes c.push_general.new.out) (omega arith)
+          (omega arith) c.loop-n.invariant.1 after,
+    )

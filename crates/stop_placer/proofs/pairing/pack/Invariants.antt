@@ -12,5 +12,6 @@ abbrev pub invariant-loop-n : goal.invariant-loop-n
 invariant-loop-n l = record {
   so : IsPackedSo l.text l.n l.packing;
   room : length l.packing.closed < BUNDLE_LIMIT;
-  window : l.n < length (sequence_of l.text).insns → IsWindow (over_sequence (sequence_of l.text)) (stopped_by l.packing.causes) l.window (first_of l.n);
+  window : l.n < length (sequence_of l.text).insns → IsWindow (over_sequence (sequence_of l.text))
+      (stopped_by l.packing.causes) l.window (first_of l.n);
 }

@@ -5,4 +5,5 @@ use Rattle.stop_placer.proofs.plain.plain_chunks.Given as goal
 
 abbrev pub invariant-loop-item : goal.invariant-loop-item
 invariant-loop-item l =
-    l.chunks.items ++ map (λ ws. chunk ws true) (plain_on l.current.items l.before (drop l.item-index l.rest)) ≡ map (λ ws. chunk ws true) (plain_of l.text.items)
+    l.chunks.items ++ map (λ ws. chunk ws true) (plain_on l.current.items l.before (drop l.item-index l.rest)) ≡ map (λ ws. chunk ws true)
+    (plain_of l.text.items)

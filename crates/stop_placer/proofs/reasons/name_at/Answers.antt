@@ -32,5 +32,10 @@ returns c =
     let here : is_stopped c.args.table.now.bundles c.args.place ≡ true = sym slot.stop ∙ c.if-not-slot.false in
     record {
       unstopped = λ e. absurd (true≢false (sym here ∙ e));
-      stopped = λ e. (record { after = c.args.place; why = c.in_ok-why.why }, record { after = refl; cause = c.in-Some-gap.cause; is = c.in-Some-gap.is; reason = c.in_ok-why.ensures }, c.in_ok-push.ensures.items);
+      stopped =
+          λ e. (
+            record { after = c.args.place; why = c.in_ok-why.why },
+            record { after = refl; cause = c.in-Some-gap.cause; is = c.in-Some-gap.is; reason = c.in_ok-why.ensures },
+            c.in_ok-push.ensures.items,
+          );
     }

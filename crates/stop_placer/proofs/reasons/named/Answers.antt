@@ -24,7 +24,9 @@ places-init c =
       place = is;
       last = last_first p c.args.places.now c.args.causes.now c.requires.caused;
       from = from_first p is;
-      names = subst (λ (l : List StopWhy). NamesAmong p (place_in c.args.places.now) c.args.causes.now l (λ q. IsBefore q (first_of 0))) (sym c.new-stops.ensures.items) (names_none p (place_in c.args.places.now) c.args.causes.now);
+      names =
+          subst (λ (l : List StopWhy). NamesAmong p (place_in c.args.places.now) c.args.causes.now l (λ q. IsBefore q (first_of 0)))
+          (sym c.new-stops.ensures.items) (names_none p (place_in c.args.places.now) c.args.causes.now);
     }
 
 pub unreachable-requires : goal.unreachable-requires
@@ -36,8 +38,10 @@ name_at-requires-clause-due c =
     let p = c.args.table.now in
     let n = c.last_at-n.result in
     let gap = get_or c.args.causes.now n None in
-    let got : slice_get c.args.causes.now n ≡ Some gap = slice_get-get_or c.args.causes.now n None (omega (arith, c.last_at-n.ensures.inside, c.requires.caused.same_length)) in
-    due_at p c.args.places.now c.args.causes.now n c.places.behind c.places.place gap c.requires.caused c.last_at-n.ensures c.places.invariant.place c.places.invariant.from got
+    let got : slice_get c.args.causes.now n ≡ Some gap =
+    slice_get-get_or c.args.causes.now n None (omega (arith, c.last_at-n.ensures.inside, c.requires.caused.same_length)) in
+    due_at p c.args.places.now c.args.causes.now n c.places.behind c.places.place gap c.requires.caused c.last_at-n.ensures
+    c.places.invariant.place c.places.invariant.from got
 
 pub returns-in_default-next : goal.returns-in_default-next
 returns-in_default-next c =
@@ -45,12 +49,14 @@ returns-in_default-next c =
     let j = c.places.place in
     let n = c.last_at-n.result in
     let gap = get_or c.args.causes.now n None in
-    let got : slice_get c.args.causes.now n ≡ Some gap = slice_get-get_or c.args.causes.now n None (omega (arith, c.last_at-n.ensures.inside, c.requires.caused.same_length)) in
+    let got : slice_get c.args.causes.now n ≡ Some gap =
+    slice_get-get_or c.args.causes.now n None (omega (arith, c.last_at-n.ensures.inside, c.requires.caused.same_length)) in
     let at : slot_at p.bundles j ≡ Some c.in-Some.slot.now = sym c.in-Some.ensures in
     let last : next_of p.bundles j ≡ None = sym (slot_next p j c.in-Some.slot.now at) ∙ c.in_default-next.is in
     let named = c.in_ok-name_at.ensures in
     names_all p (place_in c.args.places.now) c.args.causes.now c.name_at.new.stops.items j
-    (names_at p c.args.places.now c.args.causes.now n j gap c.places.stops.items c.name_at.new.stops.items c.places.invariant.names c.requires.caused c.last_at-n.ensures c.places.invariant.place got named) last
+    (names_at p c.args.places.now c.args.causes.now n j gap c.places.stops.items c.name_at.new.stops.items c.places.invariant.names
+    c.requires.caused c.last_at-n.ensures c.places.invariant.place got named) last
 
 pub places-smaller : goal.places-smaller
 places-smaller c =
@@ -70,7 +76,8 @@ places-preserved c =
     let n = c.last_at-n.result in
     let next = c.in-Some-next.next in
     let gap = get_or c.args.causes.now n None in
-    let got : slice_get c.args.causes.now n ≡ Some gap = slice_get-get_or c.args.causes.now n None (omega (arith, c.last_at-n.ensures.inside, c.requires.caused.same_length)) in
+    let got : slice_get c.args.causes.now n ≡ Some gap =
+    slice_get-get_or c.args.causes.now n None (omega (arith, c.last_at-n.ensures.inside, c.requires.caused.same_length)) in
     let at : slot_at p.bundles j ≡ Some c.in-Some.slot.now = sym c.in-Some.ensures in
     let follows : next_of p.bundles j ≡ Some next = sym (slot_next p j c.in-Some.slot.now at) ∙ c.in-Some-next.is in
     let named = c.in_ok-name_at.ensures in
@@ -78,7 +85,10 @@ places-preserved c =
     record {
       place = next_place (over_program p) j next follows;
       last = last_next p c.args.places.now c.args.causes.now n j next c.requires.caused c.last_at-n.ensures follows;
-      from = rw c.behind_stop-behind.ensures (from_next p c.places.behind j next c.in-Some.slot.now.stop c.places.invariant.place c.places.invariant.from follows stop.stop);
+      from =
+          rw c.behind_stop-behind.ensures (from_next p c.places.behind j next c.in-Some.slot.now.stop c.places.invariant.place
+          c.places.invariant.from follows stop.stop);
       names = names_next p (place_in c.args.places.now) c.args.causes.now c.name_at.new.stops.items j next
-          (names_at p c.args.places.now c.args.causes.now n j gap c.places.stops.items c.name_at.new.stops.items c.places.invariant.names c.requires.caused c.last_at-n.ensures c.places.invariant.place got named) follows;
+          (names_at p c.args.places.now c.args.causes.now n j gap c.places.stops.items c.name_at.new.stops.items c.places.invariant.names
+          c.requires.caused c.last_at-n.ensures c.places.invariant.place got named) follows;
     }

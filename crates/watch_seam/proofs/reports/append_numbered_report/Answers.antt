@@ -7,4 +7,5 @@ use Rattle.watch_seam.proofs.reports.append_numbered_report.Goals as goal
 
 pub returns : goal.returns
 returns g c =
-    on_ok_weaker c.append_report.result (λ e. appended c.args.out.now.items (line (codes "watch " ++ decimal c.args.number)) _ c.extend_from_slice.new.self.items _ (search rules) e) c.append_report.ensures
+    on_ok_weaker c.append_report.result (λ e. appended c.args.out.now.items (line (codes "watch " ++ decimal c.args.number)) _
+    c.extend_from_slice.new.self.items _ (search rules) e) c.append_report.ensures

@@ -16,5 +16,6 @@ invariant_of-result c =
     let same = sym c.in_ok-code.ensures in
     record {
       program = subst IsProgram same is;
-      under_way = subst (λ (q : Program). IsUnderWay q (progress_of c.in_ok-run.run')) same (subst (IsUnderWay p) (sym e) (begins_under_way p is));
+      under_way =
+          subst (λ (q : Program). IsUnderWay q (progress_of c.in_ok-run.run')) same (subst (IsUnderWay p) (sym e) (begins_under_way p is));
     }

@@ -25,7 +25,9 @@ returns-then-left-eq0-clause-value c =
 
 pub returns-then-left-eq0-clause-event : goal.returns-then-left-eq0-clause-event
 returns-then-left-eq0-clause-event c one =
-    let over = is_over c.args.code.now (progress_of c.loop-how.self) (progress_of c.advance.new.self) c.in-Some.how c.loop-how.invariant.running c.in-Some.ensures.value (sym c.in-Some.ensures.how) in
+    let over =
+    is_over c.args.code.now (progress_of c.loop-how.self) (progress_of c.advance.new.self) c.in-Some.how c.loop-how.invariant.running
+    c.in-Some.ensures.value (sym c.in-Some.ensures.how) in
     rw (c.place_numbered.ensures, c.place_at.ensures) (over.event ∙ c.loop-how.invariant.event one)
 
 pub loop-how-preserved-in-Some : goal.loop-how-preserved-in-Some
@@ -47,7 +49,9 @@ loop-how-preserved-in-Some c =
 
 pub loop-how-smaller : goal.loop-how-smaller
 loop-how-smaller c =
-    let within = is_within c.args.code.now (progress_of c.loop-how.self) (progress_of c.advance.new.self) c.requires.program c.loop-how.invariant.under_way c.loop-how.invariant.running c.in_default.ensures.value (sym c.in_default.ensures.how) in
+    let within =
+    is_within c.args.code.now (progress_of c.loop-how.self) (progress_of c.advance.new.self) c.requires.program
+    c.loop-how.invariant.under_way c.loop-how.invariant.running c.in_default.ensures.value (sym c.in_default.ensures.how) in
     omega (arith, within.few, within.slots, c.loop-how.invariant.some)
 
 pub loop-how-preserved : goal.loop-how-preserved
@@ -56,7 +60,9 @@ loop-how-preserved c =
     let now = progress_of c.loop-how.self in
     let next = progress_of c.advance.new.self in
     let left = c.loop-how.left in
-    let within = is_within p now next c.requires.program c.loop-how.invariant.under_way c.loop-how.invariant.running c.in_default.ensures.value (sym c.in_default.ensures.how) in
+    let within =
+    is_within p now next c.requires.program c.loop-how.invariant.under_way c.loop-how.invariant.running c.in_default.ensures.value
+    (sym c.in_default.ensures.how) in
     record {
       some = c.loop-how.invariant.some;
       most = c.loop-how.invariant.most;

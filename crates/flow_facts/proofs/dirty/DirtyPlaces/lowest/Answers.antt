@@ -11,13 +11,17 @@ looking-preserved c =
     let rows = c.looking.self-inside.rows.items in
     let n = 64 * (64 * c.looking.self-inside.low + c.first.result) + c.first-in-looking.result in
     let zero : get_or rows n 0 ≡ 0 = elim c.else-n-len.branch [
-      | else-n-len-via-then-n-len+else-index-ne0 w ↦ get_or_default rows n 0 w.index.result.now (omega (arith, w.if-n-len.true)) ∙ sym w.index.ensures ∙ w.if-index-ne0.false
+      | else-n-len-via-then-n-len+else-index-ne0 w ↦ get_or_default rows n 0 w.index.result.now (omega (arith, w.if-n-len.true))
+          ∙ sym w.index.ensures ∙ w.if-index-ne0.false
       | else-n-len-via-else-n-len w ↦ get_or_past rows n 0 (omega (arith, w.if-n-len.false))
     ] in
     record {
       same = c.looking.invariant.same;
-      kept = kept_unmarked rows rows c.looking.self-inside.blocks.items c.unmark-in-looking.new.words.items c.looking.self-inside.regions.items c.looking.self-inside.low n
-          refl (λ k far. refl) zero c.unmark-in-looking.ensures.same_length c.unmark-in-looking.ensures.marks c.unmark-in-looking.ensures.at_most c.looking.invariant.kept;
+      kept =
+          kept_unmarked rows rows c.looking.self-inside.blocks.items c.unmark-in-looking.new.words.items c.looking.self-inside.regions.items
+          c.looking.self-inside.low n
+          refl (λ k far. refl) zero c.unmark-in-looking.ensures.same_length c.unmark-in-looking.ensures.marks
+          c.unmark-in-looking.ensures.at_most c.looking.invariant.kept;
     }
 
 pub returns-then-index-ne0-clause-lowest : goal.returns-then-index-ne0-clause-lowest
@@ -29,10 +33,17 @@ returns-then-index-ne0-clause-lowest c =
     let kept = c.looking.invariant.kept in
     let n = 64 * (64 * low + c.first.result) + c.first-in-looking.result in
     rw (← c.self.view_is, ← c.looking.invariant.same) (record {
-      is = λ e. c.if-index-ne0.true (c.index.ensures ∙ sym (get_or_default rows n 0 c.index.result.now (omega (arith, c.if-n-len.true))) ∙ e);
-      none_below = first_kept rows blocks regions low c.first.result c.first-in-looking.result kept c.first.ensures.range c.first-in-looking.ensures.range
-          (λ y l. ap (λ (w : ℕ). has_bit w y) (get_or_default regions low 0 c.index-blocks.result.now (omega (arith, c.looking-test.true)) ∙ sym c.index-blocks.ensures) ∙ c.first.ensures.none_below y l)
-          (λ y l. ap (λ (w : ℕ). has_bit w y) (get_or_default blocks (64 * low + c.first.result) 0 c.index-places.result.now (omega (arith, kept.full, c.looking-test.true, c.first.ensures.range)) ∙ sym c.index-places.ensures) ∙ c.first-in-looking.ensures.none_below y l);
+      is =
+          λ e. c.if-index-ne0.true (c.index.ensures ∙ sym (get_or_default rows n 0 c.index.result.now (omega (arith, c.if-n-len.true)))
+          ∙ e);
+      none_below =
+          first_kept rows blocks regions low c.first.result c.first-in-looking.result kept c.first.ensures.range
+          c.first-in-looking.ensures.range
+          (λ y l. ap (λ (w : ℕ). has_bit w y) (get_or_default regions low 0 c.index-blocks.result.now (omega (arith, c.looking-test.true))
+          ∙ sym c.index-blocks.ensures) ∙ c.first.ensures.none_below y l)
+          (λ y l. ap (λ (w : ℕ). has_bit w y) (get_or_default blocks (64 * low + c.first.result) 0 c.index-places.result.now
+          (omega (arith, kept.full, c.looking-test.true, c.first.ensures.range)) ∙ sym c.index-places.ensures)
+          ∙ c.first-in-looking.ensures.none_below y l);
     })
 
 pub returns-clause-lowest : goal.returns-clause-lowest
@@ -43,4 +54,5 @@ returns-clause-lowest c n =
       | inl l ↦ c.looking.invariant.kept.below (n / 64 / 64) l
       | inr past ↦ get_or_past regions (n / 64 / 64) 0 (omega (arith, c.looking-test.false))
     ] in
-    rw (← c.self.view_is, ← c.looking.invariant.same) (region_clear rows c.looking.self-inside.blocks.items regions c.looking.self-inside.low n c.looking.invariant.kept clear)
+    rw (← c.self.view_is, ← c.looking.invariant.same) (region_clear rows c.looking.self-inside.blocks.items regions
+    c.looking.self-inside.low n c.looking.invariant.kept clear)

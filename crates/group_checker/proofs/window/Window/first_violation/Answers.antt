@@ -10,14 +10,16 @@ returns-in-Some c g has_stop u =
     let was : c.deref.result.now ≡ c.args.self.now = c.deref.ensures.value ∙ c.self.view_is in
     let there = subst (λ (es : List EarlierSlot). HasWindow g has_stop es c.args.second c.args.slot.now c.args.masks.now) (sym was) u in
     first_at g has_stop c.args.self.now c.args.second c.loop-n.n c.in-Some.found u.window (c.loop-n.invariant g has_stop u)
-    (subst (λ (es : List EarlierSlot). IsFirstOfPair g has_stop es c.loop-n.n c.args.second c.in-Some.found) was (c.in-Some.ensures g has_stop there))
+    (subst (λ (es : List EarlierSlot). IsFirstOfPair g has_stop es c.loop-n.n c.args.second c.in-Some.found) was
+    (c.in-Some.ensures g has_stop there))
 
 pub loop-n-preserved : goal.loop-n-preserved
 loop-n-preserved c g has_stop u =
     let was : c.deref.result.now ≡ c.args.self.now = c.deref.ensures.value ∙ c.self.view_is in
     let there = subst (λ (es : List EarlierSlot). HasWindow g has_stop es c.args.second c.args.slot.now c.args.masks.now) (sym was) u in
     below_more _ _ (c.loop-n.invariant g has_stop u)
-    (λ x. c.in_default.ensures g has_stop there (subst (λ (es : List EarlierSlot). IsPairViolated g has_stop es c.loop-n.n c.args.second) (sym was) x))
+    (λ x. c.in_default.ensures g has_stop there (subst (λ (es : List EarlierSlot). IsPairViolated g has_stop es c.loop-n.n c.args.second)
+    (sym was) x))
 
 pub returns : goal.returns
 returns c g has_stop u x =

@@ -6,4 +6,6 @@ use Rattle.group_checker.specs.Findings.{IsPairViolated}
 use Rattle.group_checker.proofs.window.Window.first_violation.Given as goal
 
 abbrev pub invariant-loop-n : goal.invariant-loop-n
-invariant-loop-n l = (g : Graph) (has_stop : Place → Bool) → HasWindow g has_stop l.self l.second l.slot l.masks → (k : ℕ) → k < l.n → ¬ IsPairViolated g has_stop l.self k l.second
+invariant-loop-n l =
+    (g : Graph) (has_stop : Place → Bool) → HasWindow g has_stop l.self l.second l.slot l.masks → (k : ℕ) → k < l.n
+    → ¬ IsPairViolated g has_stop l.self k l.second

@@ -25,10 +25,12 @@ returns c g has_stop next known u follows =
 
 pub returns-in_default : goal.returns-in_default
 returns-in_default c g has_stop next known u follows =
-    rw c.clear.ensures.items (unreached_window g has_stop c.args.place next (slot_place g has_stop c.args.place c.args.slot.now u.slot) follows
+    rw c.clear.ensures.items (unreached_window g has_stop c.args.place next (slot_place g has_stop c.args.place c.args.slot.now u.slot)
+    follows
     (rw c.in_default.is at known))
 
 pub returns-then-not-joins : goal.returns-then-not-joins
 returns-then-not-joins c g has_stop next known u follows =
-    rw c.clear-then-not-joins.ensures.items (parted_window g has_stop c.args.place next (slot_place g has_stop c.args.place c.args.slot.now u.slot) follows
+    rw c.clear-then-not-joins.ensures.items (parted_window g has_stop c.args.place next
+    (slot_place g has_stop c.args.place c.args.slot.now u.slot) follows
     (slot_parts g has_stop c.args.place c.args.slot.now u.slot next (sym c.joins.ensures ∙ c.if-not-joins.true)))

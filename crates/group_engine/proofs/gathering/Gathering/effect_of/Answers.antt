@@ -20,6 +20,8 @@ returns-then-is_branch c insn at =
 pub returns-else-is_branch : goal.returns-else-is_branch
 returns-else-is_branch c insn at =
     rw c.branch_inputs.ensures
-    (effect_of_plain c.args.table.now (gathered_of c.args.self.now) c.args.slot.now c.effect-else-is_branch.result c.requires.slot (sym c.if-is_branch.ensures)
-    (rw (← c.program-else-is_branch.ensures, ← c.start-view.ensures.registers, ← c.start-view.ensures.in_order) c.effect-else-is_branch.ensures.value)
+    (effect_of_plain c.args.table.now (gathered_of c.args.self.now) c.args.slot.now c.effect-else-is_branch.result c.requires.slot
+    (sym c.if-is_branch.ensures)
+    (rw (← c.program-else-is_branch.ensures, ← c.start-view.ensures.registers, ← c.start-view.ensures.in_order)
+    c.effect-else-is_branch.ensures.value)
     (rw (← c.start-view.ensures.registers, ← c.start-view.ensures.in_order) c.effect-else-is_branch.ensures.may) insn at)

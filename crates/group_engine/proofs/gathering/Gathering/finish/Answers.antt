@@ -11,5 +11,7 @@ returns-else-number-ne0-clause-latest c =
     let old = c.args.self.now in
     let writes = old.kept.writes in
     let kept : c.arrange.new.self.latest ≡ old.kept.latest = search rules in
-    let made : c.make.new.registers ≡ apply (arranged (order c.args.number (length writes)) writes) (record old.registers { unat = old.in_order.unat }) = search rules in
-    kept ∙ c.requires ∙ left_in_order writes old.registers old.in_order.unat c.args.number (omega (arith, c.if-number-ne0.false)) ∙ ap branch_inputs_of (sym made)
+    let made : c.make.new.registers ≡ apply (arranged (order c.args.number (length writes)) writes)
+    (record old.registers { unat = old.in_order.unat }) = search rules in
+    kept ∙ c.requires ∙ left_in_order writes old.registers old.in_order.unat c.args.number (omega (arith, c.if-number-ne0.false))
+    ∙ ap branch_inputs_of (sym made)

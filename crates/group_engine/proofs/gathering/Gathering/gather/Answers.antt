@@ -11,10 +11,13 @@ returns-then-gather_slot-clause-value c =
     let left : suc (RUN_LIMIT - n - 1) ≡ RUN_LIMIT - n = omega (arith, c.loop-n-test.true) in
     let here = c.gather_slot.ensures.ends c.if-gather_slot.true (RUN_LIMIT - n - 1) in
     over_from _ _ _ _ c.loop-n.invariant.rest
-    (subst (λ most. HasGathered (rest_of most c.args.table.now (n == 0) (gathered_of c.loop-n.self)) (gathered_of c.gather_slot.new.self) c.gather_slot.new.self.end) left here)
+    (subst (λ most. HasGathered (rest_of most c.args.table.now (n == 0) (gathered_of c.loop-n.self))
+    (gathered_of c.gather_slot.new.self) c.gather_slot.new.self.end) left here)
 
 pub unreachable-requires : goal.unreachable-requires
 unreachable-requires c =
     let none : RUN_LIMIT - c.loop-n.n ≡ 0 = omega (arith, c.loop-n-test.false) in
-    comes_to_end c.args.table.now (state_of c.args.self.now) (gathered_of c.loop-n.self) (c.loop-n.n == 0) c.groups_end.ensures.all_at_once c.requires.program c.requires.place
-    (subst (λ most. HasRestOf (rest_of RUN_LIMIT c.args.table.now true (gathered_from (state_of c.args.self.now))) (rest_of most c.args.table.now (c.loop-n.n == 0) (gathered_of c.loop-n.self))) none c.loop-n.invariant.rest)
+    comes_to_end c.args.table.now (state_of c.args.self.now) (gathered_of c.loop-n.self)
+    (c.loop-n.n == 0) c.groups_end.ensures.all_at_once c.requires.program c.requires.place
+    (subst (λ most. HasRestOf (rest_of RUN_LIMIT c.args.table.now true (gathered_from (state_of c.args.self.now)))
+    (rest_of most c.args.table.now (c.loop-n.n == 0) (gathered_of c.loop-n.self))) none c.loop-n.invariant.rest)

@@ -9,7 +9,8 @@ use Rattle.group_engine.proofs.gathering.Gathering.gather.Given as goal
 
 abbrev pub invariant-loop-n : goal.invariant-loop-n
 invariant-loop-n l = record {
-  rest : HasRestOf (rest_of RUN_LIMIT l.table true (gathered_from (state_of l.fn.self))) (rest_of (RUN_LIMIT - l.n) l.table (l.n == 0) (gathered_of l.self));
+  rest : HasRestOf (rest_of RUN_LIMIT l.table true (gathered_from (state_of l.fn.self)))
+      (rest_of (RUN_LIMIT - l.n) l.table (l.n == 0) (gathered_of l.self));
   place : IsPlaceOf l.table.bundles l.self.place;
   running : l.self.end ≡ None;
   latest : l.self.kept.latest ≡ branch_inputs_of (now_of (gathered_of l.self));

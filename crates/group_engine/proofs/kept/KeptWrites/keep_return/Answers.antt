@@ -6,7 +6,8 @@ use Rattle.frame_shapes.proofs.Returns.{return_free, may_return}
 use Rattle.group_engine.proofs.kept.KeptWrites.keep_return.Goals as goal
 
 -- The return has no fault in the largest stack.
-free : (base pfs : ℕ) → return_fault base (marked_frame base pfs) ≡ None → return_fault_within STACK_LIMIT base (marked_frame base pfs) ≡ None
+free : (base pfs : ℕ) → return_fault base (marked_frame base pfs) ≡ None
+    → return_fault_within STACK_LIMIT base (marked_frame base pfs) ≡ None
 free base pfs may = return_free STACK_LIMIT base (marked_frame base pfs) refl may
 
 pub returned_frame-frame-requires : goal.returned_frame-frame-requires

@@ -10,6 +10,8 @@ loop-left-preserved c =
     let made = c.run_group.ensures in
     let groups = ap (λ (e : Engine). e.groups) made in
     record {
-      rest = ap (groups_further (l.left - 1) c.args.number) made ∙ sym (further_on l.left c.args.number l.self running c.loop-left-test.true) ∙ l.invariant.rest;
+      rest =
+          ap (groups_further (l.left - 1) c.args.number) made ∙ sym (further_on l.left c.args.number l.self running c.loop-left-test.true)
+          ∙ l.invariant.rest;
       room = omega (arith, groups, l.invariant.room, c.loop-left-test.true);
     }

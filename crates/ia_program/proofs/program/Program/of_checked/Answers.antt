@@ -15,19 +15,33 @@ are_bytes bytes fit i = elim (cases_lt i (length bytes)) [
 
 pub returns-in-Some-long_run-clause-only_fault : goal.returns-in-Some-long_run-clause-only_fault
 returns-in-Some-long_run-clause-only_fault c =
-    let parts : Program = record { bundles = c.args.bundles.items; entries = c.args.entries.items; bytes = c.args.memory.items; relations = c.args.relations.items } in
+    let parts : Program =
+    record {
+      bundles = c.args.bundles.items;
+      entries = c.args.entries.items;
+      bytes = c.args.memory.items;
+      relations = c.args.relations.items;
+    } in
     let this : HasProgramFault parts (LongRun c.in-Some-long_run.place) = search rules in
     λ other has. ap Err (one_program_fault parts (LongRun c.in-Some-long_run.place) other this has)
 
 pub returns-in-Some-misdeclared_relation-clause-only_fault : goal.returns-in-Some-misdeclared_relation-clause-only_fault
 returns-in-Some-misdeclared_relation-clause-only_fault c =
-    let parts : Program = record { bundles = c.args.bundles.items; entries = c.args.entries.items; bytes = c.args.memory.items; relations = c.args.relations.items } in
+    let parts : Program =
+    record {
+      bundles = c.args.bundles.items;
+      entries = c.args.entries.items;
+      bytes = c.args.memory.items;
+      relations = c.args.relations.items;
+    } in
     let this : HasProgramFault parts (RelationFault c.in-Some-misdeclared_relation.n) = search rules in
     λ other has. ap Err (one_program_fault parts (RelationFault c.in-Some-misdeclared_relation.n) other this has)
 
 pub of_parts-requires : goal.of_parts-requires
 of_parts-requires c =
-    let relations : AreRelations c.args.bundles.items c.args.entries.items c.args.relations.items = rw (sym c.deref-3.ensures.value, sym c.deref-4.ensures.value, sym c.deref-5.ensures.value) c.in_default-misdeclared_relation.ensures in
+    let relations : AreRelations c.args.bundles.items c.args.entries.items c.args.relations.items =
+    rw (sym c.deref-3.ensures.value, sym c.deref-4.ensures.value, sym c.deref-5.ensures.value)
+    c.in_default-misdeclared_relation.ensures in
     record {
       fit = search rules;
       counts = c.requires.counts;
@@ -39,4 +53,10 @@ of_parts-requires c =
     }
 
 pub returns-clause-only_fault : goal.returns-clause-only_fault
-returns-clause-only_fault c = λ fault has. absurd (no_program_fault (record { bundles = c.args.bundles.items; entries = c.args.entries.items; bytes = c.args.memory.items; relations = c.args.relations.items }) fault (of_parts-requires c.before) has)
+returns-clause-only_fault c =
+    λ fault has. absurd (no_program_fault (record {
+      bundles = c.args.bundles.items;
+      entries = c.args.entries.items;
+      bytes = c.args.memory.items;
+      relations = c.args.relations.items;
+    }) fault (of_parts-requires c.before) has)

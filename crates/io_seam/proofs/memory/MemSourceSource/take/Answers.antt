@@ -9,4 +9,5 @@ returns-clause-taken c =
     let n = c.min-count.result in
     let left = to_end bytes c.deref.result.now at c.deref.ensures.value in
     let within : n ≤ length (drop at bytes) = omega (arith, ap length left) in
-    ap (λ s. s.left) (sym c.self.view_is) ∙ copied-rest bytes c.args.piece.now c.copy_from_slice.new.self at n within (c.copy_from_slice.ensures.after ∙ ap (take n) left)
+    ap (λ s. s.left) (sym c.self.view_is) ∙ copied-rest bytes c.args.piece.now c.copy_from_slice.new.self at n within
+    (c.copy_from_slice.ensures.after ∙ ap (take n) left)

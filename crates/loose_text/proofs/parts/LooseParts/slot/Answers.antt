@@ -18,11 +18,17 @@ returns-in_default-clause-err c =
     let stands : IsIn section.Text c.self.inside.declared = search rules in
     let items = items_of c.self.inside.items.items in
     let item : Item = item_of c.self.inside.fresh c.args.n c.args.draft c.args.stop in
-    let full : ¬ (length (plain_of (items ++ item ∷ [])) ≤ BUNDLE_LIMIT) = rw c.insn_of.ensures at c.in_default.ensures items c.self.invariant in
-    rw (sym c.self.view_is) (inr (Limit, c.fault-in_default.ensures, inr (narrow, inr (stands, inr (tt, inl (tt, refl, λ room. full (rw (sym (other_line items item 0)) at room)))))))
+    let full : ¬ (length (plain_of (items ++ item ∷ [])) ≤ BUNDLE_LIMIT) =
+    rw c.insn_of.ensures at c.in_default.ensures items c.self.invariant in
+    rw (sym c.self.view_is) (inr (
+      Limit,
+      c.fault-in_default.ensures,
+      inr (narrow, inr (stands, inr (tt, inl (tt, refl, λ room. full (rw (sym (other_line items item 0)) at room))))),
+    ))
 
 -- The instructions with the one of this line.
-lines : (c : goal.After-self-2-1) → c.push.new.self.items ≡ c.self.inside.items.items ++ record { item = item_of c.self.inside.fresh c.args.n c.args.draft c.args.stop; target = c.args.draft.target } ∷ []
+lines : (c : goal.After-self-2-1) → c.push.new.self.items ≡ c.self.inside.items.items
+    ++ record { item = item_of c.self.inside.fresh c.args.n c.args.draft c.args.stop; target = c.args.draft.target } ∷ []
 lines c = rw c.insn_of.ensures at c.in_ok-push.ensures.items
 
 pub invariant_of-self-2 : goal.invariant_of-self-2
@@ -38,5 +44,9 @@ returns-clause-ok c =
     let stands : IsIn section.Text c.self.inside.declared = search rules in
     let items = items_of c.self.inside.items.items in
     let item : Item = item_of c.self.inside.fresh c.args.n c.args.draft c.args.stop in
-    let room : length (plain_of (items ++ item ∷ [])) ≤ BUNDLE_LIMIT = (rw c.insn_of.ensures at c.in-Some.ensures items c.self.invariant).0 in
-    rw (sym c.self.view_is) ((narrow, (stands, (tt, (rw (sym (other_line items item 0)) room, tt)))), ap (λ ls. record { declared = c.self.inside.declared; items = ls; fresh = false }) (lines c))
+    let room : length (plain_of (items ++ item ∷ [])) ≤ BUNDLE_LIMIT =
+    (rw c.insn_of.ensures at c.in-Some.ensures items c.self.invariant).0 in
+    rw (sym c.self.view_is) (
+      (narrow, (stands, (tt, (rw (sym (other_line items item 0)) room, tt)))),
+      ap (λ ls. record { declared = c.self.inside.declared; items = ls; fresh = false }) (lines c),
+    )

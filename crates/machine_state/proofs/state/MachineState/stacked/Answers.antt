@@ -5,7 +5,9 @@ use Rattle.machine_state.proofs.Names.{look_stacked}
 use Rattle.machine_state.proofs.state.MachineState.stacked.Goals as goal
 
 pub returns-in-Ok : goal.returns-in-Ok
-returns-in-Ok c = rw (← c.self.view_is) (ap result_ok c.in-Ok.ensures ∙ look_stacked (contents_of c.self.inside).registers c.args.r (omega arith))
+returns-in-Ok c =
+    rw (← c.self.view_is) (ap result_ok c.in-Ok.ensures ∙ look_stacked (contents_of c.self.inside).registers c.args.r (omega arith))
 
 pub returns-in-Err : goal.returns-in-Err
-returns-in-Err c = rw (← c.self.view_is) (ap result_ok c.in-Err.ensures ∙ look_stacked (contents_of c.self.inside).registers c.args.r (omega arith))
+returns-in-Err c =
+    rw (← c.self.view_is) (ap result_ok c.in-Err.ensures ∙ look_stacked (contents_of c.self.inside).registers c.args.r (omega arith))

@@ -14,5 +14,6 @@ returns c =
           (entered_when_full left c.args.self.now c.args.entry gone (sym c.is_full.ensures.value ∙ w.if-is_full.true))
       | else-is_full w ↦
           rw (c.push.ensures.items, w.self-inside-is)
-          (entered_with_room left c.args.self.now c.args.entry gone c.is_full.ensures.fits (sym c.is_full.ensures.value ∙ w.if-is_full.false))
+          (entered_with_room left c.args.self.now c.args.entry gone c.is_full.ensures.fits
+          (sym c.is_full.ensures.value ∙ w.if-is_full.false))
     ]

@@ -7,5 +7,6 @@ use Rattle.nat_alat.proofs.alat.Alat.has.Goals as goal
 
 pub returns : goal.returns
 returns c =
-    any_from_yields_List (λ e. is_spot e.key c.args.key) _ _ _ c.any.ensures.ran (YieldsList-from_slice c.args.self.now cc) (λ x b q k. search (rules, tests))
+    any_from_yields_List (λ e. is_spot e.key c.args.key) _ _ _ c.any.ensures.ran (YieldsList-from_slice c.args.self.now cc)
+    (λ x b q k. search (rules, tests))
     ∙ sym (entry_is_any c.args.self.now c.args.key)

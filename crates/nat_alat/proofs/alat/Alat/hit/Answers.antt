@@ -6,5 +6,6 @@ use Rattle.nat_alat.proofs.alat.Alat.hit.Goals as goal
 
 pub returns : goal.returns
 returns c =
-    any_from_yields_List (λ d. is_entry d c.args.entry) _ _ _ c.any.ensures.ran (YieldsList-from_slice c.args.self.now cc) (λ x b q k. search (rules, tests))
+    any_from_yields_List (λ d. is_entry d c.args.entry) _ _ _ c.any.ensures.ran (YieldsList-from_slice c.args.self.now cc)
+    (λ x b q k. search (rules, tests))
     ∙ sym (hit_is_any c.args.self.now c.args.entry)

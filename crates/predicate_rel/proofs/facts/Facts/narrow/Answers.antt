@@ -10,7 +10,8 @@ returns-then-keeps_pairs c =
     let rules = action_rule c.args.action.now c.args.edge c.args.qp in
     let kept = c.keeps_pairs.ensures c.if-keeps_pairs.true c.args.qp in
     narrows_rows rules c.args.changed c.args.changed (pairs_of c.args.before.now) c.args.self.now c.intersect.new.self c.intersect.result
-    (subst (λ (past : Pairs). IsWholly (pairs_of c.args.self.now) past (has_bit c.args.changed) (pairs_of c.intersect.new.self)) (pairs_kept c.args.before.now rules kept)
+    (subst (λ (past : Pairs). IsWholly (pairs_of c.args.self.now) past (has_bit c.args.changed) (pairs_of c.intersect.new.self))
+    (pairs_kept c.args.before.now rules kept)
     (wholly_from _ _ _ c.args.changed c.intersect.ensures.common))
     (λ x l t. t) (λ older agree. kept_agree rules c.args.changed older (pairs_of c.args.before.now) kept agree)
     c.intersect.ensures.lost c.intersect.ensures.more

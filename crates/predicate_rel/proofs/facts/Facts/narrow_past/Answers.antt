@@ -6,15 +6,24 @@ use Rattle.predicate_rel.proofs.facts.Facts.narrow_past.Goals as goal
 
 pub narrowing-preserved-then-narrow_row : goal.narrowing-preserved-then-narrow_row
 narrowing-preserved-then-narrow_row c = record {
-  narrowed = narrowed_row _ _ _ _ _ _ (has_bit c.without-rest.result) c.lowest-x.result c.action_row.result c.narrowing.invariant.narrowed c.lowest-x.ensures.range c.lowest-x.ensures.there c.without-rest.ensures.bits
-      (row_past (pairs_of c.args.before.now) (action_rule c.args.action.now c.args.edge c.args.qp) c.lowest-x.result c.action_row.result c.lowest-x.ensures.range c.action_row.ensures) c.narrow_row.ensures.narrowed;
-  lost = lost_row _ _ _ c.narrowing.lost c.with_bit-lost.result c.lowest-x.result c.action_row.result c.narrowing.invariant.lost (λ x y l m. narrowed_within _ _ _ _ _ x y c.narrowing.invariant.narrowed l m) c.with_bit-lost.ensures c.narrow_row.ensures.narrowed c.if-narrow_row.ensures.more;
+  narrowed =
+      narrowed_row _ _ _ _ _ _ (has_bit c.without-rest.result) c.lowest-x.result c.action_row.result c.narrowing.invariant.narrowed
+      c.lowest-x.ensures.range c.lowest-x.ensures.there c.without-rest.ensures.bits
+      (row_past (pairs_of c.args.before.now) (action_rule c.args.action.now c.args.edge c.args.qp) c.lowest-x.result c.action_row.result
+      c.lowest-x.ensures.range c.action_row.ensures) c.narrow_row.ensures.narrowed;
+  lost =
+      lost_row _ _ _ c.narrowing.lost c.with_bit-lost.result c.lowest-x.result c.action_row.result c.narrowing.invariant.lost
+      (λ x y l m. narrowed_within _ _ _ _ _ x y c.narrowing.invariant.narrowed l m) c.with_bit-lost.ensures c.narrow_row.ensures.narrowed
+      c.if-narrow_row.ensures.more;
 }
 
 pub narrowing-preserved : goal.narrowing-preserved
 narrowing-preserved c = record {
-  narrowed = narrowed_row _ _ _ _ _ _ (has_bit c.without-rest.result) c.lowest-x.result c.action_row.result c.narrowing.invariant.narrowed c.lowest-x.ensures.range c.lowest-x.ensures.there c.without-rest.ensures.bits
-      (row_past (pairs_of c.args.before.now) (action_rule c.args.action.now c.args.edge c.args.qp) c.lowest-x.result c.action_row.result c.lowest-x.ensures.range c.action_row.ensures) c.narrow_row.ensures.narrowed;
+  narrowed =
+      narrowed_row _ _ _ _ _ _ (has_bit c.without-rest.result) c.lowest-x.result c.action_row.result c.narrowing.invariant.narrowed
+      c.lowest-x.ensures.range c.lowest-x.ensures.there c.without-rest.ensures.bits
+      (row_past (pairs_of c.args.before.now) (action_rule c.args.action.now c.args.edge c.args.qp) c.lowest-x.result c.action_row.result
+      c.lowest-x.ensures.range c.action_row.ensures) c.narrow_row.ensures.narrowed;
   lost = rw c.if-narrow_row.ensures.same c.narrowing.invariant.lost;
 }
 

@@ -5,7 +5,8 @@ use Rattle.predicate_rel.proofs.facts.Facts.narrow_past.Given as goal
 
 abbrev pub invariant-narrowing : goal.invariant-narrowing
 invariant-narrowing l = record {
-  narrowed : IsNarrowed (pairs_of l.initial.self) (pairs_by (pairs_of l.before) (action_rule l.action l.edge l.qp)) (has_bit l.initial.rest) (has_bit l.rest) (pairs_of l.self);
+  narrowed : IsNarrowed (pairs_of l.initial.self) (pairs_by (pairs_of l.before) (action_rule l.action l.edge l.qp)) (has_bit l.initial.rest)
+      (has_bit l.rest) (pairs_of l.self);
   lost : HasLost (pairs_of l.initial.self) l.lost (pairs_of l.self);
 }
 

@@ -8,6 +8,7 @@ pub returns : goal.returns
 returns c changed =
     let rules = action_rule c.args.action.now c.args.edge c.args.qp in
     narrows_all rules changed (pairs_of c.args.before.now) c.args.self.now c.intersect.new.self c.intersect.result
-    (subst (λ (past : Pairs). IsWholly (pairs_of c.args.self.now) past (has_bit 18446744073709551615) (pairs_of c.intersect.new.self)) c.after_action.ensures
+    (subst (λ (past : Pairs). IsWholly (pairs_of c.args.self.now) past (has_bit 18446744073709551615) (pairs_of c.intersect.new.self))
+    c.after_action.ensures
     (wholly_from _ _ _ 18446744073709551615 c.intersect.ensures.common))
     c.intersect.ensures.lost c.intersect.ensures.more

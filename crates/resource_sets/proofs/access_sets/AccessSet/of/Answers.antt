@@ -10,5 +10,10 @@ pub returns : goal.returns
 returns c =
     let x = c.args.access.now in
     set_of (x ∷ []) _
-    (λ a d. elim (cases_in x a [] d) [ inl e ↦ (ap (λ (y : Access). y.kind) e, ap (λ (y : Access). y.guard) e) | inr n ↦ absurd (not_in_none a n) ])
-    (λ q. c.insert.ensures q ∙ ap (λ (b : Bool). b || is_resource x.resource q) (c.empty-resources.ensures q) ∙ sym (or_false (is_resource x.resource q)))
+    (λ a d. elim (cases_in x a [] d) [
+      | inl e ↦ (ap (λ (y : Access). y.kind) e, ap (λ (y : Access). y.guard) e)
+      | inr n ↦ absurd
+          (not_in_none a n)
+    ])
+    (λ q. c.insert.ensures q ∙ ap (λ (b : Bool). b || is_resource x.resource q) (c.empty-resources.ensures q)
+    ∙ sym (or_false (is_resource x.resource q)))

@@ -16,7 +16,8 @@ pub bundled-requires-clause-runs : goal.bundled-requires-clause-runs
 bundled-requires-clause-runs c =
     let e : c.deref.result.now ≡ plain_chunks c.args.text.now = c.deref.ensures.value ∙ c.in_ok-chunks.ensures in
     let are = subst (AreChunksOf c.args.text.now) (sym e) (plain_are_chunks c.args.text.now c.is_loose.ensures) in
-    c.quiet_is_short.ensures c.args.text.now c.deref.result.now c.is_loose.ensures are (subst HasNoLongQuiet (sym e) (plain_is_quiet c.args.text.now))
+    c.quiet_is_short.ensures c.args.text.now c.deref.result.now c.is_loose.ensures are
+    (subst HasNoLongQuiet (sym e) (plain_is_quiet c.args.text.now))
 
 pub returns : goal.returns
 returns c =
@@ -27,5 +28,7 @@ returns c =
     let are = subst (AreChunksOf s) (sym e) (plain_are_chunks s is) in
     let runs = c.quiet_is_short.ensures s cs is are (subst HasNoLongQuiet (sym e) (plain_is_quiet s)) in
     let made : c.in_ok-table.table ≡ program_of s cs = c.in_ok-table.ensures ∙ c.in_ok-program.ensures.program in
-    are_known s cs c.in_ok-facts.facts c.in_ok-program.field-0.places.items is are c.known_in_the_sequence.ensures (c.bundled_is_spread.ensures.spread s cs is are)
-    (c.bundled_is_program.ensures s cs is are runs) (subst (λ (p : Program). IsSolution p c.in_ok-facts.facts) made c.in_ok-facts.ensures) c.in_ok-program.ensures.places
+    are_known s cs c.in_ok-facts.facts c.in_ok-program.field-0.places.items is are c.known_in_the_sequence.ensures
+    (c.bundled_is_spread.ensures.spread s cs is are)
+    (c.bundled_is_program.ensures s cs is are runs) (subst (λ (p : Program). IsSolution p c.in_ok-facts.facts) made c.in_ok-facts.ensures)
+    c.in_ok-program.ensures.places

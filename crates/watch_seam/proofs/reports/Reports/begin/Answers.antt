@@ -8,4 +8,5 @@ use Rattle.watch_seam.proofs.reports.Reports.begin.Goals as goal
 pub returns-clause-numbers : goal.returns-clause-numbers
 returns-clause-numbers g c =
     let n = length c.args.watchers.now in
-    of_ok c.collect.result c.in_ok-collect.field-0 (λ w. vec_items w ≡ range_with_len 0 n) c.in_ok-collect.was (items_from_collect c.collect.result c.collect.ensures.ran (YieldsList-from_range 0 n n refl (omega arith)))
+    of_ok c.collect.result c.in_ok-collect.field-0 (λ w. vec_items w ≡ range_with_len 0 n) c.in_ok-collect.was
+    (items_from_collect c.collect.result c.collect.ensures.ran (YieldsList-from_range 0 n n refl (omega arith)))

@@ -11,7 +11,8 @@ see-requires g c = has_room _ _ _ _ _ _ _ _ _ _ c.loop-at.invariant (search rule
 
 pub returns-in_err-see-clause-cut_short : goal.returns-in_err-see-clause-cut_short
 returns-in_err-see-clause-cut_short g c =
-    if_err c.from_residual.result (given_up_before _ _ _ _ _ _ _ _ _ _ _ c.loop-at.invariant (search rules) c.index_mut.ensures.value c.in_err-see.ensures.err)
+    if_err c.from_residual.result (given_up_before _ _ _ _ _ _ _ _ _ _ _ c.loop-at.invariant (search rules) c.index_mut.ensures.value
+    c.in_err-see.ensures.err)
 
 pub loop-at-smaller-in-Stay : goal.loop-at-smaller-in-Stay
 loop-at-smaller-in-Stay g c = search rules
@@ -28,13 +29,15 @@ loop-at-smaller g c = one_fewer _ _ _ _ (search rules) c.in_ok-retire-in-Full.en
 
 pub loop-at-preserved : goal.loop-at-preserved
 loop-at-preserved g c =
-    after_full _ _ _ _ _ _ _ _ _ _ _ _ _ _ _ c.loop-at.invariant (search rules) c.index_mut.ensures.value c.in_ok-see.ensures.seen (search rules) c.in_ok-retire-in-Full.ensures.text c.in_ok-retire-in-Full.ensures.numbers c.in_ok-retire-in-Full.ensures.watchers
+    after_full _ _ _ _ _ _ _ _ _ _ _ _ _ _ _ c.loop-at.invariant (search rules) c.index_mut.ensures.value c.in_ok-see.ensures.seen
+    (search rules) c.in_ok-retire-in-Full.ensures.text c.in_ok-retire-in-Full.ensures.numbers c.in_ok-retire-in-Full.ensures.watchers
 
 pub returns-in_err-retire-in-Full-clause-cut_short :
     goal.returns-in_err-retire-in-Full-clause-cut_short
 returns-in_err-retire-in-Full-clause-cut_short g c =
     if_err c.from_residual-in_err-retire-in-Full.result
-    (given_up_after _ _ _ _ _ _ _ _ _ _ _ _ c.loop-at.invariant (search rules) c.index_mut.ensures.value c.in_ok-see.ensures.seen c.in_err-retire-in-Full.ensures.err)
+    (given_up_after _ _ _ _ _ _ _ _ _ _ _ _ c.loop-at.invariant (search rules) c.index_mut.ensures.value c.in_ok-see.ensures.seen
+    c.in_err-retire-in-Full.ensures.err)
 
 pub returns-clause-as_many : goal.returns-clause-as_many
 returns-clause-as_many g c = as_many_at _ _ _ _ _ _ _ _ _ c.loop-at.invariant
@@ -48,4 +51,5 @@ returns-clause-left g c = (at_end _ _ _ _ _ _ _ _ _ c.loop-at.invariant (search 
 pub returns-clause-still_room : goal.returns-clause-still_room
 returns-clause-still_room g c =
     let ws = zip c.args.self.now.numbers (map (λ b. (goal.Watch-dyn g (b.vtable, b.value)).state b.value) c.args.watchers.now.items) in
-    still_room _ c.args.event.now ws _ _ (as_many_at _ _ _ _ _ _ _ _ _ c.loop-at.invariant) (at_end _ _ _ _ _ _ _ _ _ c.loop-at.invariant (search rules)).1
+    still_room _ c.args.event.now ws _ _ (as_many_at _ _ _ _ _ _ _ _ _ c.loop-at.invariant)
+    (at_end _ _ _ _ _ _ _ _ _ c.loop-at.invariant (search rules)).1
