@@ -16,7 +16,7 @@ use Rattle.asm_reading.specs.declared.line.Line.{Line}
 use Rattle.asm_reading.specs.declared.line.Line.TheVariants as line
 use Rattle.asm_reading.specs.declared.line.TemplateName.{TemplateName}
 use Rattle.asm_reading.specs.declared.line.TemplateName.TheVariants as template_name
-use Rattle.asm_reading.specs.Lines.{◌>>=◌, named, directive_value, IsListedLine, is_colon, value_of, reading_of}
+use Rattle.asm_reading.specs.Lines.{◌>>=◌, named, directive_value, IsListedLine, is_colon, line_of, reading_of}
 use Rattle.asm_printing.specs.SlotTexts.{label_text}
 use Rattle.asm_text.proofs.OperandTexts.{label_is_name}
 use Rattle.asm_text.proofs.SlotLines.{read_plain}
@@ -30,7 +30,7 @@ label_lexed n l = name_lexed 76 (decimal n) (codes ":") refl refl (decimal_is_na
 label_plain : (n : ℕ) → n < 2 ^ 32 → has_only_plain (label_text n) ≡ true
 label_plain n l = decimal_is_plain n (omega (arith, l))
 
-label_value : (n : ℕ) → n < 2 ^ 32 → value_of ((kind.Name, label_text n) ∷ (kind.Mark, codes ":") ∷ []) ≡ Ok (line.Label (label_text n))
+label_value : (n : ℕ) → n < 2 ^ 32 → line_of ((kind.Name, label_text n) ∷ (kind.Mark, codes ":") ∷ []) ≡ Ok (line.Label (label_text n))
 label_value n l = rw (label_is_name n (omega (arith, l))) refl
 
 -- The label of a bundle.
@@ -40,7 +40,7 @@ label_says n l = record {
   reads = record {
     reading =
         read_plain (label_text n ++ codes ":") (both_plain (label_text n) (codes ":") (label_plain n l) refl)
-        ∙ ap value_of (label_lexed n l) ∙ label_value n l;
+        ∙ ap line_of (label_lexed n l) ∙ label_value n l;
     listed = tt;
   };
 }
@@ -51,7 +51,7 @@ entry_lexed n l = name_lexed 46 (codes "entry") (32 ∷ label_text n) refl refl 
 name_alone : (n : ℕ) → n < 2 ^ 32 → lexed 0 (label_text n ++ []) ≡ (kind.Name, label_text n) ∷ []
 name_alone n l = name_lexed 76 (decimal n) [] refl refl (decimal_is_name_bytes n (omega (arith, l))) refl
 
-entry_value : (n : ℕ) → n < 2 ^ 32 → value_of ((kind.Name, codes ".entry") ∷ (kind.Name, label_text n) ∷ [])
+entry_value : (n : ℕ) → n < 2 ^ 32 → line_of ((kind.Name, codes ".entry") ∷ (kind.Name, label_text n) ∷ [])
     ≡ Ok (line.Entry (label_text n))
 entry_value n l =
     cond-false (is_colon (token_of kind.Name (label_text n))) _ _ (ap is_colon (label_reads n l))
@@ -64,7 +64,7 @@ entry_says n l = record {
   short = omega (arith, label_is_short n l);
   reads = record {
     reading = read_plain (codes ".entry " ++ label_text n) (label_plain n l)
-        ∙ ap value_of (entry_lexed n l ∙ ap (λ ws. (kind.Name, codes ".entry") ∷ ws)
+        ∙ ap line_of (entry_lexed n l ∙ ap (λ ws. (kind.Name, codes ".entry") ∷ ws)
         (ap (lexed 0) (sym (append-nil (label_text n))) ∙ name_alone n l)) ∙ entry_value n l;
     listed = tt;
   };

@@ -14,7 +14,7 @@ use Rattle.asm_lexemes.proofs.Readings.{hex_reads, hex_is_plain, both_plain, hex
 use Rattle.asm_forms.specs.declared.choices.AccessSize.TheVariants as size
 use Rattle.asm_forms.specs.declared.items.NumberField.TheVariants as field
 use Rattle.asm_reading.specs.declared.line.Line.TheVariants as line
-use Rattle.asm_reading.specs.Lines.{KindAndText, tokens, agreed_data, numbers_of, data_of, is_colon, value_of}
+use Rattle.asm_reading.specs.Lines.{KindAndText, tokens, agreed_data, numbers_of, data_of, is_colon, line_of}
 use Rattle.asm_printing.proofs.Rooms.{hex_is_short}
 use Rattle.asm_text.proofs.SlotLines.{read_plain}
 use Rattle.asm_build.specs.TextReading.{Says}
@@ -105,11 +105,11 @@ data_value w ws few l h =
     rw (same, odd, numbers_back w ws l h) refl
 
 after_name : (x : KindAndText) (ws : List KindAndText) → is_colon (token_of x.0 x.1) ≡ false
-    → value_of ((kind.Name, codes "data8") ∷ x ∷ ws) ≡ data_of size.Eight (tokens (x ∷ ws))
+    → line_of ((kind.Name, codes "data8") ∷ x ∷ ws) ≡ data_of size.Eight (tokens (x ∷ ws))
 after_name x ws h = cond-false (is_colon (token_of x.0 x.1)) _ _ h
 
 led_value : (w : ℕ) (ws : List KindAndText) → token_of kind.Number (hex_text w) ≡ t.Number false w
-    → value_of ((kind.Name, codes "data8") ∷ (kind.Number, hex_text w) ∷ ws) ≡ data_of size.Eight (t.Number false w ∷ tokens ws)
+    → line_of ((kind.Name, codes "data8") ∷ (kind.Number, hex_text w) ∷ ws) ≡ data_of size.Eight (t.Number false w ∷ tokens ws)
 led_value w ws e = after_name (kind.Number, hex_text w) ws (ap is_colon e) ∙ ap (λ x. data_of size.Eight (x ∷ tokens ws)) e
 
 -- A line of at most eight words.
@@ -126,7 +126,7 @@ numbers_say w ws few h =
       short = omega (arith, length-append (codes "data8 " ++ hex_text w) (more_text ws), more_short ws h.1, few, hex_is_short 15 w h.0 h.0);
       reads = record {
         reading =
-            read_plain (numbers_text w ws) plain ∙ ap value_of cut ∙ led_value w (more_words ws) (hex_reads w h.0)
+            read_plain (numbers_text w ws) plain ∙ ap line_of cut ∙ led_value w (more_words ws) (hex_reads w h.0)
             ∙ ap (λ xs. data_of size.Eight (t.Number false w ∷ xs)) (more_read ws h.1) ∙ data_value w ws few h.0 h.1;
         listed = tt;
       };

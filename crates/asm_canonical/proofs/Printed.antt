@@ -20,7 +20,7 @@ use Rattle.formats_b.specs.ListedF.{rows as rows_f}
 use Rattle.formats_b.proofs.TableF.{are_table as table_f}
 use Rattle.formats_b.specs.ListedX.{rows as rows_x, slot_part}
 use Rattle.formats_b.proofs.TableX.{are_table as table_x}
-use Rattle.formats_b.specs.PartsX.{slot_op, IsWithin}
+use Rattle.formats_b.specs.PartsX.{slot_op, HasNumberInRange}
 use Rattle.ia_program.specs.Listed.{IsListed}
 use Rattle.asm_forms.specs.Rows.{row_of}
 use Rattle.asm_canonical.specs.Canonical.{form_of}
@@ -28,7 +28,7 @@ use Rattle.asm_canonical.proofs.InRange.{IsInRange, IsTokenInRange, listed_in_ra
 use Rattle.asm_canonical.proofs.Written.{operands_of}
 
 -- A long instruction, whose row has a part of its immediate.
-whole_in_range : (qp : ℕ) (x : Op) → AllByRecursion IsInRange (values_under qp (slot_op x)) → IsWithin x
+whole_in_range : (qp : ℕ) (x : Op) → AllByRecursion IsInRange (values_under qp (slot_op x)) → HasNumberInRange x
     → AllByRecursion IsInRange (values_under qp x)
 whole_in_range qp (op.Movl r1 imm) h within = (h.0, (h.1.0, (within, (tt, (tt, (tt, (tt, tt)))))))
 whole_in_range qp (op.Break u imm) h within = (h.0, (omega (arith, within), (tt, (tt, (tt, (tt, (tt, tt)))))))

@@ -26,7 +26,7 @@ pub use items::{
     has_room, is_label_item, is_long_name, is_number, is_register, is_stop,
 };
 pub use laws::forms_are_read_back;
-pub use naming::{Completers, Named, completers, named};
+pub use naming::{Completers, Named, completers, named_forms};
 pub use operands::{Operands, taken};
 pub use rows::{Row, RowOf};
 pub use spelling::find_spelled;

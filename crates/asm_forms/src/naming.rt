@@ -116,7 +116,7 @@ pub(crate) fn rows_by_letter(name: &[u8]) -> &'static [TableRow]
 }
 
 /// The forms whose stems and completers this name is, in the order of the rows.
-pub fn named(name: &[u8]) -> Named
+pub fn named_forms(name: &[u8]) -> Named
     ensures { result.items ≡ named_forms name.now }
 {
     named_among(rows_by_letter(name), name)

@@ -24,7 +24,7 @@ use Rattle.formats_b.specs.RowIndexesF.{row_index_of as row_index_f}
 use Rattle.formats_b.proofs.TableF.{is_row_index_of as is_row_index_f}
 use Rattle.formats_b.specs.ListedX.{rows as rows_x, slot_part, IsListedX}
 use Rattle.formats_b.specs.RowIndexesX.{row_index_of as row_index_x}
-use Rattle.formats_b.specs.PartsX.{slot_op, IsWithin}
+use Rattle.formats_b.specs.PartsX.{slot_op, HasNumberInRange}
 use Rattle.formats_b.proofs.WordsX.{row_of_x, of_row_x}
 use Rattle.ia_program.specs.Listed.{IsListed}
 
@@ -43,7 +43,7 @@ listed_b i = listed_by rows_b (row_index_b (opcode_of i.op)) i (is_row_index_b (
 pub listed_f : (i : Insn) → Dec (IsListedF i)
 listed_f i = listed_by rows_f (row_index_f (opcode_of i.op)) i (is_row_index_f (opcode_of i.op))
 
-within : (x : Op) → Dec (IsWithin x)
+within : (x : Op) → Dec (HasNumberInRange x)
 within (Movl r1 imm) = dec_lt imm (2 ^ 64)
 within (Break unit imm) = dec_lt imm (2 ^ 62)
 within (Nop unit imm) = dec_lt imm (2 ^ 62)

@@ -11,14 +11,14 @@ use Rattle.asm_lexemes.specs.Numbers.{number_token}
 use Rattle.asm_lexemes.specs.Registers.{register_of}
 
 -- A name that is no register, by its first byte and its length.
-abbrev pub other_name : List ℕ → Token
-other_name name =
+abbrev pub unregistered_name : List ℕ → Token
+unregistered_name name =
     if begins_letter name then (if nat_le (length name) NAME_LIMIT then t.Name else t.LongName)
     else (if nat_le (length name) NAME_LIMIT then t.Symbol else t.LongSymbol)
 
 abbrev or_other_name : Option Token → List ℕ → Token
 or_other_name (Some register) name = register
-or_other_name None name = other_name name
+or_other_name None name = unregistered_name name
 
 abbrev pub name_token : List ℕ → Token
 name_token name = or_other_name (register_of name) name

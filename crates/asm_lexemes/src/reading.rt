@@ -2,7 +2,7 @@
 
 ghost use Rattle.std.specs.Prelude.{◌≡◌};
 ghost use Rattle.asm_lexemes.specs.Bytes.{begins_letter};
-ghost use Rattle.asm_lexemes.specs.Tokens.{name_token, other_name, quoted_token, mark_token, token_of};
+ghost use Rattle.asm_lexemes.specs.Tokens.{name_token, unregistered_name, quoted_token, mark_token, token_of};
 
 use crate::bytes::is_letter;
 use crate::lexeme::LexemeKind;
@@ -30,13 +30,13 @@ fn name_token(name: &[u8]) -> Token
 {
     match register_of(name) {
         Some(register) => register,
-        None => other_name(name),
+        None => unregistered_name(name),
     }
 }
 
 // A name that is no register.
-fn other_name(name: &[u8]) -> Token
-    ensures { result ≡ other_name name.now }
+fn unregistered_name(name: &[u8]) -> Token
+    ensures { result ≡ unregistered_name name.now }
 {
     if begins_letter(name) {
         if name.len() <= NAME_LIMIT {

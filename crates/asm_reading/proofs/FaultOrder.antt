@@ -7,7 +7,7 @@ use Rattle.asm_lexemes.specs.declared.fault.LineFault.{LineFault}
 use Rattle.asm_lexemes.specs.declared.fault.LineFault.TheVariants as fault
 use Rattle.asm_lexemes.specs.Bytes.{has_only_plain}
 use Rattle.asm_reading.specs.declared.line.Line.{Line}
-use Rattle.asm_reading.specs.Lines.{value_of, reading_of, IsListedLine, FaultOf}
+use Rattle.asm_reading.specs.Lines.{line_of, reading_of, IsListedLine, FaultOf}
 use Rattle.asm_reading.specs.FaultOrder.{lexemes_of, Beside, nothing, beside_of, fault_before, before_stage, after_stage, HasValue, line_stages}
 use Rattle.asm_reading.proofs.FaultOrderFronts.{wrong_position}
 use Rattle.asm_reading.proofs.FaultOrderAnswers.{IsFound, beside_stages, Answers, value_answers}
@@ -100,17 +100,17 @@ not_both v e r a b = cc
 
 pub fault_found : (bytes : List ℕ) (e : LineFault) → FaultOf bytes e → IsFirstFault (line_stages bytes) e
 fault_found bytes e (inl is) =
-    err_found (has_only_plain bytes) (beside_of (lexemes_of bytes)) (value_of (lexemes_of bytes))
+    err_found (has_only_plain bytes) (beside_of (lexemes_of bytes)) (line_of (lexemes_of bytes))
     (HasValue bytes) e (value_answers (lexemes_of bytes)) is
     (λ says. not_both says.0 e (reading_of bytes) says.1.reading is)
 fault_found bytes e (inr (value, is, unlisted, form)) =
     ok_found (has_only_plain bytes) (beside_of (lexemes_of bytes))
-    (value_of (lexemes_of bytes)) value (HasValue bytes) e (value_answers (lexemes_of bytes)) is
+    (line_of (lexemes_of bytes)) value (HasValue bytes) e (value_answers (lexemes_of bytes)) is
     (λ says. unlisted (subst IsListedLine (same_value says.0 value (reading_of bytes) says.1.reading is) says.1.listed)) form
 
 value_passes : (bytes : List ℕ) → HasValue bytes → ArePassed (line_stages bytes)
 value_passes bytes says =
-    ok_passed (has_only_plain bytes) (beside_of (lexemes_of bytes)) (value_of (lexemes_of bytes)) says.0 (HasValue bytes)
+    ok_passed (has_only_plain bytes) (beside_of (lexemes_of bytes)) (line_of (lexemes_of bytes)) says.0 (HasValue bytes)
     (value_answers (lexemes_of bytes)) says.1.reading says
 
 line_sound : (bytes : List ℕ) → AreSound (line_stages bytes)

@@ -28,7 +28,7 @@ use Rattle.asm_instructions.specs.Instructions.{op_of}
 use Rattle.asm_reading.specs.declared.line.Line.{Line}
 use Rattle.asm_reading.specs.declared.line.Line.TheVariants as line
 use Rattle.asm_reading.specs.declared.line.TemplateName.{TemplateName}
-use Rattle.asm_reading.specs.Lines.{◌>>=◌, or_fault, KindAndText, tokens, label_name, name_of, lead_at, without_stop, predicate_of, completers_or_none, slot_under, slot_of, data_field, agreed_data, data_of, relation_of, named, directive_value, directive_of, alone, formed, among, marked, template_name_of, opened_as, mark_led, led_by, led_at, led, is_name_lexeme, is_colon, label_of, value_of}
+use Rattle.asm_reading.specs.Lines.{◌>>=◌, or_fault, KindAndText, tokens, label_name, name_of, lead_at, without_stop, predicate_of, completers_or_none, slot_under, slot_of, data_field, agreed_data, data_of, relation_of, named, directive_value, directive_of, alone, formed, line_by_forms, lone_mark, template_name_of, opened_as, mark_led, line_led_by, led_at, line_without_label, is_name_lexeme, is_colon, label_of, line_of}
 use Rattle.asm_reading.specs.FaultOrder.{Beside, beside, beside_name, beside_mark, beside_lexeme, beside_at, beside_lead, beside_of, name_instruction, fault_in, predicate_fault, fault_before, Operands, Numbers, Predicates, OfForms, operands_of, right_count, fault_among, before_stage, after_stage}
 use Rattle.asm_reading.proofs.FaultOrderFronts.{right_within, fault_front, first_wrong, spelled_all, spelled_with_stop, found_all}
 
@@ -245,7 +245,7 @@ Answers None r = r ≡ Err fault.Name
 Answers (Some b) r = IsFound (beside_stages b) r
 
 among_answers : (forms : List Form) (name : List ℕ) (before after : List KindAndText)
-    → Answers (beside_name forms before after) (among forms name before after)
+    → Answers (beside_name forms before after) (line_by_forms forms name before after)
 among_answers [] name before after = refl
 among_answers (f ∷ fs) name before after = formed_found f fs name before after
 
@@ -254,7 +254,7 @@ beside_none : (w : KindAndText) (ws : List KindAndText) → IsFoundFault (beside
 beside_none w ws = inl (inr (refl, inl (0, refl, record { right = refl; wrong = λ e. omega (arith, e) })))
 
 marked_found : (value : Line) (before after : List KindAndText)
-    → IsFound (beside_stages (beside [] before after)) (marked value before after)
+    → IsFound (beside_stages (beside [] before after)) (lone_mark value before after)
 marked_found value [] [] = (refl, (refl, tt))
 marked_found value [] (w ∷ ws) = beside_none w ws
 marked_found value (b ∷ bs) after = inl (inl (fault.Form, refl, refl))
@@ -272,7 +272,7 @@ mark_led_answers t.OpenBrace before (w ∷ after) = opened_as_answers (template_
 mark_led_answers _ before after = refl
 
 -- Lines by their leading lexemes, and by the positions of these.
-led_by_answers : (w : KindAndText) (before after : List KindAndText) → Answers (beside_lexeme w before after) (led_by w before after)
+led_by_answers : (w : KindAndText) (before after : List KindAndText) → Answers (beside_lexeme w before after) (line_led_by w before after)
 led_by_answers (kind.Name, text) before after = among_answers (named_forms text) text before after
 led_by_answers (kind.Number, text) before after = refl
 led_by_answers (kind.Quoted, text) before after = refl
@@ -286,7 +286,7 @@ led_at_answers ws (Some k) =
       | Some w ↦ λ e. rw e (led_by_answers w (take k ws) (drop (k + 1) ws))
     ] refl
 
-led_answers : (ws : List KindAndText) → Answers (beside_lead ws) (led ws)
+led_answers : (ws : List KindAndText) → Answers (beside_lead ws) (line_without_label ws)
 led_answers ws = led_at_answers ws (lead_at (tokens ws))
 
 if_only : {A : Type 0} (b : Bool) (r : Result A LineFault) → OnlyForm r → OnlyForm (if b then Err fault.Form else r)
@@ -300,12 +300,12 @@ label_found text [] =
 label_found text (w ∷ ws) = beside_none w ws
 
 -- Whole lines of plain bytes.
-pub value_answers : (ws : List KindAndText) → Answers (beside_of ws) (value_of ws)
+pub value_answers : (ws : List KindAndText) → Answers (beside_of ws) (line_of ws)
 value_answers [] = (refl, (refl, tt))
 value_answers (w ∷ []) = led_answers (w ∷ [])
 value_answers (w ∷ x ∷ ws) =
     elim (is_name_lexeme w && is_colon (token_of x.0 x.1)) as (λ b.
-    Answers (if b then Some (beside [] [] ws) else beside_lead (w ∷ x ∷ ws)) (if b then label_of w.1 ws else led (w ∷ x ∷ ws))) [
+    Answers (if b then Some (beside [] [] ws) else beside_lead (w ∷ x ∷ ws)) (if b then label_of w.1 ws else line_without_label (w ∷ x ∷ ws))) [
       | true ↦ label_found w.1 ws
       | false ↦ led_answers (w ∷ x ∷ ws)
     ]

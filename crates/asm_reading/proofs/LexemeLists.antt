@@ -13,7 +13,7 @@ use Rattle.asm_forms.specs.declared.items.FormItem.{FormItem}
 use Rattle.asm_forms.specs.Items.{is_label_item}
 use Rattle.asm_lexemes.specs.Lexemes.{lexemes_from}
 use Rattle.asm_reading.specs.declared.line.Line.{Line}
-use Rattle.asm_reading.specs.Lines.{KindAndText, AreParts, texts, value_of, led, led_at, led_by, worded, label_of, label_name, reading_of}
+use Rattle.asm_reading.specs.Lines.{KindAndText, AreParts, texts, line_of, line_without_label, led_at, line_led_by, line_led_by_name, label_of, label_name, reading_of}
 
 -- A label has nothing after its colon.
 pub label_alone : (text line : List ℕ) (ws : List Lexeme) → 1 ≤ length ws → Err fault.Form ≡ label_of text (texts line ws)
@@ -21,7 +21,7 @@ label_alone text line [] h = absurd (omega (arith, h))
 label_alone text line (w ∷ ws) h = refl
 
 -- One lexeme is no label.
-pub one_lexeme : (line : List ℕ) (ws : List Lexeme) → 1 ≤ length ws → length ws < 2 → led (texts line ws) ≡ value_of (texts line ws)
+pub one_lexeme : (line : List ℕ) (ws : List Lexeme) → 1 ≤ length ws → length ws < 2 → line_without_label (texts line ws) ≡ line_of (texts line ws)
 one_lexeme line [] some few = absurd (omega (arith, some))
 one_lexeme line (w ∷ []) some few = refl
 one_lexeme line (w ∷ x ∷ ws) some few = absurd (omega (arith, few))
@@ -29,7 +29,7 @@ one_lexeme line (w ∷ x ∷ ws) some few = absurd (omega (arith, few))
 -- The leading lexeme, what stands before it and what follows it.
 pub led_there : (line : List ℕ) (ws before after : List Lexeme) (k : ℕ) (d : Lexeme) → k < length ws → before ≡ take k ws
     → after ≡ drop (k + 1) ws
-    → led_by ((get_or ws k d).kind, slice_range line (get_or ws k d).start (get_or ws k d).end) (texts line before) (texts line after)
+    → line_led_by ((get_or ws k d).kind, slice_range line (get_or ws k d).start (get_or ws k d).end) (texts line before) (texts line after)
     ≡ led_at (texts line ws) (Some k)
 led_there line ws before after k d h front rest =
     let view : Lexeme → KindAndText = λ w. (w.kind, slice_range line w.start w.end) in
@@ -40,12 +40,12 @@ led_there line ws before after k d h front rest =
 
 -- A line that a name leads.
 pub led_name : (k : LexemeKind) (text part : List ℕ) (before after : List KindAndText) (r : Result Line LineFault) → k ≡ kind.Name
-    → text ≡ part → r ≡ worded text before after → r ≡ led_by (k, part) before after
-led_name k text part before after r e t h = h ∙ ap (λ w. worded w before after) t ∙ ap (λ q. led_by (q, part) before after) (sym e)
+    → text ≡ part → r ≡ line_led_by_name text before after → r ≡ line_led_by (k, part) before after
+led_name k text part before after r e t h = h ∙ ap (λ w. line_led_by_name w before after) t ∙ ap (λ q. line_led_by (q, part) before after) (sym e)
 
 -- The lexemes of a line are read by their kinds and texts.
 pub read_by_text : (line : List ℕ) (ws : List Lexeme) → ws ≡ lexemes_from 0 0 line → has_only_plain line ≡ true
-    → value_of (texts line ws) ≡ reading_of line
+    → line_of (texts line ws) ≡ reading_of line
 read_by_text line ws e plain = rw (e, plain) refl
 
 -- The name of the label is not among the lexemes where they end before it.

@@ -10,7 +10,7 @@ use Rattle.asm_lexemes.specs.declared.lexeme.LexemeKind.{LexemeKind}
 use Rattle.asm_lexemes.specs.declared.lexeme.LexemeKind.TheVariants as kind
 use Rattle.asm_lexemes.specs.Bytes.{begins_letter}
 use Rattle.asm_lexemes.specs.Registers.{look_up, aliases, alias_of, numbered, numbered_register, register_of}
-use Rattle.asm_lexemes.specs.Tokens.{other_name, name_token, token_of}
+use Rattle.asm_lexemes.specs.Tokens.{unregistered_name, name_token, token_of}
 use Rattle.asm_lexemes.specs.Lexemes.{pick}
 use Rattle.asm_reading.specs.Lines.{is_open, is_close, is_colon}
 
@@ -61,7 +61,7 @@ one_of : (b : Bool) (x y : Token) → is_mark x ≡ false → is_mark y ≡ fals
 one_of true x y h k = h
 one_of false x y h k = k
 
-other_no_mark : (name : List ℕ) → is_mark (other_name name) ≡ false
+other_no_mark : (name : List ℕ) → is_mark (unregistered_name name) ≡ false
 other_no_mark name = one_of (begins_letter name) _ _ (one_of _ t.Name t.LongName refl refl) (one_of _ t.Symbol t.LongSymbol refl refl)
 
 abbrev or_numbered : Option Token → List ℕ → Option Token
@@ -70,7 +70,7 @@ or_numbered None name = numbered_register name
 
 abbrev or_other_name : Option Token → List ℕ → Token
 or_other_name (Some register) name = register
-or_other_name None name = other_name name
+or_other_name None name = unregistered_name name
 
 or_numbered_no_mark : (x : Option Token) (name : List ℕ) → some_mark x ≡ false → some_mark (or_numbered x name) ≡ false
 or_numbered_no_mark (Some register) name h = h

@@ -20,7 +20,7 @@ use Rattle.asm_matching.specs.Matching.{read_form}
 use Rattle.asm_instructions.specs.Instructions.{op_of}
 use Rattle.asm_reading.specs.declared.line.Line.{Line}
 use Rattle.asm_reading.specs.declared.line.Line.TheVariants as line
-use Rattle.asm_reading.specs.Lines.{◌>>=◌, or_fault, KindAndText, draft_of, ends_in_stop, completers_or_none, directive_of, alone, formed, among, worded, slot_of, slot_under, predicate_of, tokens, without_stop}
+use Rattle.asm_reading.specs.Lines.{◌>>=◌, or_fault, KindAndText, draft_of, ends_in_stop, completers_or_none, directive_of, alone, formed, line_by_forms, line_led_by_name, slot_of, slot_under, predicate_of, tokens, without_stop}
 use Rattle.asm_reading.specs.SlotReading.{slot_line, is_directive_name}
 
 formed_slot : (f : Form) (forms : List Form) (name : List ℕ) (before after : List KindAndText) → is_instruction f ≡ true
@@ -34,7 +34,7 @@ formed_slot f forms name before after h =
     cond-true (is_instruction f) (slot_of forms name before after) (alone before (directive_of forms after)) h
 
 pub slot_first : (fs : List Form) (p : Form → Bool) (f : Form) (name : List ℕ) (before after : List KindAndText)
-    → list_all is_instruction fs ≡ true → find p fs ≡ Some f → among fs name before after ≡ slot_of fs name before after
+    → list_all is_instruction fs ≡ true → find p fs ≡ Some f → line_by_forms fs name before after ≡ slot_of fs name before after
 slot_first [] p f name before after h e = cc
 slot_first (g ∷ gs) p f name before after h e = formed_slot g (g ∷ gs) name before after (left _ _ h)
 
@@ -107,7 +107,7 @@ found_read forms operands xs f h = rw h refl
 slot_read : (name : List ℕ) (before after : List KindAndText) (qp : ℕ) (f : Form) (cs : List Completer) (value : Line)
     → is_directive_name name ≡ false → predicate_of (tokens before) ≡ Ok qp
     → find (is_spelled (without_stop (tokens after))) (named_forms name) ≡ Some f
-    → completers f name ≡ Some cs → slot_line qp f cs (tokens after) after ≡ Some value → worded name before after ≡ Ok value
+    → completers f name ≡ Some cs → slot_line qp f cs (tokens after) after ≡ Some value → line_led_by_name name before after ≡ Ok value
 slot_read name before after qp f cs value plain guarded found named is =
     let xs = tokens after in
     let all : slot_line qp f (completers_or_none f name) xs after ≡ Some value = rw named is in
@@ -118,7 +118,7 @@ slot_read name before after qp f cs value plain guarded found named is =
 pub slot_if_read : (name : List ℕ) (before after : List KindAndText) (qp : ℕ) (f : Form) (cs : List Completer) (o : Option Line)
     → is_directive_name name ≡ false → predicate_of (tokens before) ≡ Ok qp
     → find (is_spelled (without_stop (tokens after))) (named_forms name) ≡ Some f
-    → completers f name ≡ Some cs → o ≡ slot_line qp f cs (tokens after) after → IfSome o (λ value. worded name before after ≡ Ok value)
+    → completers f name ≡ Some cs → o ≡ slot_line qp f cs (tokens after) after → IfSome o (λ value. line_led_by_name name before after ≡ Ok value)
 slot_if_read name before after qp f cs None plain guarded found named is = tt
 slot_if_read name before after qp f cs (Some value) plain guarded found named is =
     slot_read name before after qp f cs value plain guarded found named (sym is)

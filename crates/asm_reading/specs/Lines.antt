@@ -220,18 +220,18 @@ formed form.PredRel forms name before after = alone before (relation_of (tokens 
 formed f forms name before after = if is_instruction f then slot_of forms name before after else alone before (directive_of forms after)
 
 -- A line whose leading name names these forms, the first of which decides what the line is.
-abbrev pub among : List Form → List ℕ → List KindAndText → List KindAndText → Result Line LineFault
-among [] name before after = Err fault.Name
-among (f ∷ fs) name before after = formed f (f ∷ fs) name before after
+abbrev pub line_by_forms : List Form → List ℕ → List KindAndText → List KindAndText → Result Line LineFault
+line_by_forms [] name before after = Err fault.Name
+line_by_forms (f ∷ fs) name before after = formed f (f ∷ fs) name before after
 
 -- A line that a name leads.
-abbrev pub worded : List ℕ → List KindAndText → List KindAndText → Result Line LineFault
-worded name before after = among (named_forms name) name before after
+abbrev pub line_led_by_name : List ℕ → List KindAndText → List KindAndText → Result Line LineFault
+line_led_by_name name before after = line_by_forms (named_forms name) name before after
 
 -- A mark that stands alone.
-abbrev pub marked : Line → List KindAndText → List KindAndText → Result Line LineFault
-marked value [] [] = Ok value
-marked value before after = Err fault.Form
+abbrev pub lone_mark : Line → List KindAndText → List KindAndText → Result Line LineFault
+lone_mark value [] [] = Ok value
+lone_mark value before after = Err fault.Form
 
 abbrev pub template_name_text : TemplateName → List ℕ
 template_name_text template.Mii = codes ".mii"
@@ -256,37 +256,37 @@ template_name_of text = find (λ s. bytes_eq (template_name_text s) text) all_te
 
 abbrev pub opened_as : Option TemplateName → List KindAndText → List KindAndText → Result Line LineFault
 opened_as None before after = Err fault.Name
-opened_as (Some s) before after = marked (line.Open s) before after
+opened_as (Some s) before after = lone_mark (line.Open s) before after
 
 -- `{` and a template name
-abbrev pub opened : List KindAndText → List KindAndText → Result Line LineFault
-opened before [] = Err fault.Name
-opened before (w ∷ after) = opened_as (template_name_of w.1) before after
+abbrev pub opening_brace : List KindAndText → List KindAndText → Result Line LineFault
+opening_brace before [] = Err fault.Name
+opening_brace before (w ∷ after) = opened_as (template_name_of w.1) before after
 
 -- A line that a mark leads.
 abbrev pub mark_led : Token → List KindAndText → List KindAndText → Result Line LineFault
-mark_led t.Stop before after = marked line.Stop before after
-mark_led t.CloseBrace before after = marked line.Close before after
-mark_led t.OpenBrace before after = opened before after
+mark_led t.Stop before after = lone_mark line.Stop before after
+mark_led t.CloseBrace before after = lone_mark line.Close before after
+mark_led t.OpenBrace before after = opening_brace before after
 mark_led _ before after = Err fault.Name
 
-abbrev pub led_by : KindAndText → List KindAndText → List KindAndText → Result Line LineFault
-led_by (kind.Name, text) before after = worded text before after
-led_by (kind.Number, text) before after = Err fault.Name
-led_by (kind.Quoted, text) before after = Err fault.Name
-led_by (kind.Mark, text) before after = mark_led (token_of kind.Mark text) before after
+abbrev pub line_led_by : KindAndText → List KindAndText → List KindAndText → Result Line LineFault
+line_led_by (kind.Name, text) before after = line_led_by_name text before after
+line_led_by (kind.Number, text) before after = Err fault.Name
+line_led_by (kind.Quoted, text) before after = Err fault.Name
+line_led_by (kind.Mark, text) before after = mark_led (token_of kind.Mark text) before after
 
 abbrev led_by_some : Option KindAndText → List KindAndText → List KindAndText → Result Line LineFault
 led_by_some None before after = Err fault.Name
-led_by_some (Some w) before after = led_by w before after
+led_by_some (Some w) before after = line_led_by w before after
 
 abbrev pub led_at : List KindAndText → Option ℕ → Result Line LineFault
 led_at ws None = Err fault.Name
 led_at ws (Some k) = led_by_some (slice_get ws k) (take k ws) (drop (k + 1) ws)
 
 -- A line that is no label.
-abbrev pub led : List KindAndText → Result Line LineFault
-led ws = led_at ws (lead_at (tokens ws))
+abbrev pub line_without_label : List KindAndText → Result Line LineFault
+line_without_label ws = led_at ws (lead_at (tokens ws))
 
 abbrev pub is_name_lexeme : KindAndText → Bool
 is_name_lexeme w = pick w.0 true false false false
@@ -302,15 +302,15 @@ label_of text (w ∷ ws) = Err fault.Form
 
 -- What the lexemes of a line say: nothing, a label where the second lexeme is a colon, or what the leading
 -- lexeme leads.
-abbrev pub value_of : List KindAndText → Result Line LineFault
-value_of [] = Ok line.Empty
-value_of (w ∷ []) = led (w ∷ [])
-value_of (w ∷ x ∷ ws) =
-    if is_name_lexeme w && is_colon (token_of x.0 x.1) then label_of w.1 ws else led (w ∷ x ∷ ws)
+abbrev pub line_of : List KindAndText → Result Line LineFault
+line_of [] = Ok line.Empty
+line_of (w ∷ []) = line_without_label (w ∷ [])
+line_of (w ∷ x ∷ ws) =
+    if is_name_lexeme w && is_colon (token_of x.0 x.1) then label_of w.1 ws else line_without_label (w ∷ x ∷ ws)
 
 -- What the bytes of a line say, but for whether its instruction is listed.
 abbrev pub reading_of : List ℕ → Result Line LineFault
-reading_of bytes = if has_only_plain bytes then value_of (texts bytes (lexemes_from 0 0 bytes)) else Err fault.Char
+reading_of bytes = if has_only_plain bytes then line_of (texts bytes (lexemes_from 0 0 bytes)) else Err fault.Char
 
 -- The instruction of a slot line is listed.
 abbrev pub IsListedLine : Line → Type 0

@@ -6,7 +6,7 @@ ghost use Rattle.asm_lexemes.specs.declared.limits.TheConstants.{LINE_LIMIT};
 ghost use Rattle.asm_lexemes.specs.Tokens.{token_of};
 ghost use Rattle.asm_lexemes.specs.Lexemes.{pick};
 ghost use Rattle.asm_reading.specs.declared.line.Line.TheVariants as said;
-ghost use Rattle.asm_reading.specs.Lines.{put, AreParts, texts, tokens, name_of, label_name, lead_at, past_parenthesis, ends_in_stop, without_stop, predicate_of, is_bare, completers_or_none, slot_under, slot_of, directive_value, directive_of, alone, data_of, relation_of, among, worded, marked, template_name_of, opened, led_by, led, is_colon, is_open, is_close, label_of, value_of, reading_of, IsListedLine, LineOf, FaultOf};
+ghost use Rattle.asm_reading.specs.Lines.{put, AreParts, texts, tokens, name_of, label_name, lead_at, past_parenthesis, ends_in_stop, without_stop, predicate_of, is_bare, completers_or_none, slot_under, slot_of, directive_value, directive_of, alone, data_of, relation_of, line_by_forms, line_led_by_name, lone_mark, template_name_of, opening_brace, line_led_by, line_without_label, is_colon, is_open, is_close, label_of, line_of, reading_of, IsListedLine, LineOf, FaultOf};
 ghost use Rattle.asm_reading.specs.SlotReading.{slot_line, is_directive_name};
 
 use crate::buffers::{LineBuffers, Tokens};
@@ -16,7 +16,7 @@ use crate::relation::relation_of;
 use crate::template_name::template_name_of;
 use asm_forms::{
     AccessSize, Completer, Completers, Form, FormItem, Row, Said, completers, find_spelled,
-    is_label_item, named,
+    is_label_item, named_forms,
 };
 use asm_instructions::{op_of, u32_at};
 use asm_lexemes::limits::LINE_LIMIT;
@@ -379,7 +379,7 @@ fn directive_line(
 }
 
 /// A line whose leading name names these forms, the first of which decides what the line is.
-fn among(
+fn line_by_forms(
     forms: &[Form],
     name: &[u8],
     line: &[u8],
@@ -389,7 +389,7 @@ fn among(
 ) -> Result<Line, LineFault>
     requires few { (length before.now ≤ LINE_LIMIT) × (length after.now ≤ LINE_LIMIT) }
     requires parts { AreParts line.now before.now × AreParts line.now after.now }
-    ensures { result ≡ among forms.now name.now (texts line.now before.now) (texts line.now after.now) }
+    ensures { result ≡ line_by_forms forms.now name.now (texts line.now before.now) (texts line.now after.now) }
 {
     match forms {
         [] => Err(LineFault::Name),
@@ -428,7 +428,7 @@ fn slot_without_fault(
     requires few { (length before.now ≤ LINE_LIMIT) × (length after.now ≤ LINE_LIMIT) }
     requires parts { AreParts line.now before.now × AreParts line.now after.now }
     requires slot { is_directive_name name.now ≡ false }
-    ensures { IfSome result (λ x. worded name.now (texts line.now before.now) (texts line.now after.now) ≡ Ok value.new) }
+    ensures { IfSome result (λ x. line_led_by_name name.now (texts line.now before.now) (texts line.now after.now) ≡ Ok value.new) }
 {
     let Ok(qp) = predicate(line, before, buffer) else {
         return None;
@@ -443,7 +443,7 @@ fn slot_without_fault(
 }
 
 /// Puts a line that a name leads into `value`. All forms of the name are asked for only where a slot line has a fault.
-fn worded(
+fn line_led_by_name(
     name: &[u8],
     line: &[u8],
     before: &[Lexeme],
@@ -453,7 +453,7 @@ fn worded(
 ) -> Result<(), LineFault>
     requires few { (length before.now ≤ LINE_LIMIT) × (length after.now ≤ LINE_LIMIT) }
     requires parts { AreParts line.now before.now × AreParts line.now after.now }
-    ensures { put result value.new ≡ worded name.now (texts line.now before.now) (texts line.now after.now) }
+    ensures { put result value.new ≡ line_led_by_name name.now (texts line.now before.now) (texts line.now after.now) }
 {
     if !is_directive_name(name) {
         if let Some(()) = slot_without_fault(name, line, before, after, buffer, value) {
@@ -475,21 +475,21 @@ fn worded_by_forms(
 ) -> Result<(), LineFault>
     requires few { (length before.now ≤ LINE_LIMIT) × (length after.now ≤ LINE_LIMIT) }
     requires parts { AreParts line.now before.now × AreParts line.now after.now }
-    ensures { put result value.new ≡ worded name.now (texts line.now before.now) (texts line.now after.now) }
+    ensures { put result value.new ≡ line_led_by_name name.now (texts line.now before.now) (texts line.now after.now) }
 {
-    *value = among(&named(name), name, line, before, after, buffer)?;
+    *value = line_by_forms(&named_forms(name), name, line, before, after, buffer)?;
     Ok(())
 }
 
 /// Puts what a mark that stands alone says into `value`.
-fn marked(
+fn lone_mark(
     said: Line,
     line: &[u8],
     before: &[Lexeme],
     after: &[Lexeme],
     value: &mut Line,
 ) -> Result<(), LineFault>
-    ensures { put result value.new ≡ marked said (texts line.now before.now) (texts line.now after.now) }
+    ensures { put result value.new ≡ lone_mark said (texts line.now before.now) (texts line.now after.now) }
 {
     match (before, after) {
         ([], []) => {
@@ -501,18 +501,18 @@ fn marked(
 }
 
 /// Puts `{` and a template name into `value`.
-fn opened(
+fn opening_brace(
     line: &[u8],
     before: &[Lexeme],
     after: &[Lexeme],
     value: &mut Line,
 ) -> Result<(), LineFault>
     requires { AreParts line.now after.now }
-    ensures { put result value.new ≡ opened (texts line.now before.now) (texts line.now after.now) }
+    ensures { put result value.new ≡ opening_brace (texts line.now before.now) (texts line.now after.now) }
 {
     match after {
         [lexeme, rest @ ..] => match template_name_of(lexeme.text(line)) {
-            Some(name) => marked(Line::Open { name }, line, before, rest, value),
+            Some(name) => lone_mark(Line::Open { name }, line, before, rest, value),
             None => Err(LineFault::Name),
         },
         [] => Err(LineFault::Name),
@@ -520,7 +520,7 @@ fn opened(
 }
 
 /// Puts a line that this lexeme leads into `value`.
-fn led_by(
+fn line_led_by(
     lexeme: &Lexeme,
     line: &[u8],
     before: &[Lexeme],
@@ -531,16 +531,16 @@ fn led_by(
     requires few { (length before.now ≤ LINE_LIMIT) × (length after.now ≤ LINE_LIMIT) }
     requires parts { AreParts line.now before.now × AreParts line.now after.now }
     requires lexeme { (lexeme.now.start ≤ lexeme.now.end) × (lexeme.now.end ≤ length line.now) }
-    ensures { put result value.new ≡ led_by (lexeme.now.kind, slice_range line.now lexeme.now.start lexeme.now.end) (texts line.now before.now) (texts line.now after.now) }
+    ensures { put result value.new ≡ line_led_by (lexeme.now.kind, slice_range line.now lexeme.now.start lexeme.now.end) (texts line.now before.now) (texts line.now after.now) }
 {
     let text = lexeme.text(line);
     match lexeme.kind {
-        LexemeKind::Name => worded(text, line, before, after, buffer, value),
+        LexemeKind::Name => line_led_by_name(text, line, before, after, buffer, value),
         LexemeKind::Number | LexemeKind::Quoted => Err(LineFault::Name),
         LexemeKind::Mark => match token(LexemeKind::Mark, text) {
-            Token::Stop => marked(Line::Stop, line, before, after, value),
-            Token::CloseBrace => marked(Line::Close, line, before, after, value),
-            Token::OpenBrace => opened(line, before, after, value),
+            Token::Stop => lone_mark(Line::Stop, line, before, after, value),
+            Token::CloseBrace => lone_mark(Line::Close, line, before, after, value),
+            Token::OpenBrace => opening_brace(line, before, after, value),
             _ => Err(LineFault::Name),
         },
     }
@@ -563,7 +563,7 @@ fn from(lexemes: &[Lexeme], at: usize) -> &[Lexeme]
 }
 
 /// Puts a line that is no label into `value`.
-fn led(
+fn line_without_label(
     line: &[u8],
     lexemes: &[Lexeme],
     buffer: &mut Tokens,
@@ -571,7 +571,7 @@ fn led(
 ) -> Result<(), LineFault>
     requires few { length lexemes.now ≤ LINE_LIMIT }
     requires parts { AreParts line.now lexemes.now }
-    ensures { put result value.new ≡ led (texts line.now lexemes.now) }
+    ensures { put result value.new ≡ line_without_label (texts line.now lexemes.now) }
 {
     let Some(lead) = lead_at(line, lexemes) else {
         return Err(LineFault::Name);
@@ -579,7 +579,7 @@ fn led(
     if lead >= lexemes.len() {
         return Err(LineFault::Name);
     }
-    led_by(
+    line_led_by(
         &lexemes[lead],
         line,
         before(lexemes, lead),
@@ -624,7 +624,7 @@ fn is_colon(lexeme: &Lexeme, line: &[u8]) -> bool
 }
 
 /// Puts what the lexemes of a line say into `value`.
-fn value_of(
+fn line_of(
     line: &[u8],
     lexemes: &[Lexeme],
     buffer: &mut Tokens,
@@ -632,20 +632,20 @@ fn value_of(
 ) -> Result<(), LineFault>
     requires few { length lexemes.now ≤ LINE_LIMIT }
     requires parts { AreParts line.now lexemes.now }
-    ensures { put result value.new ≡ value_of (texts line.now lexemes.now) }
+    ensures { put result value.new ≡ line_of (texts line.now lexemes.now) }
 {
     match lexemes {
         [] => {
             *value = Line::Empty;
             Ok(())
         }
-        [_] => led(line, lexemes, buffer, value),
+        [_] => line_without_label(line, lexemes, buffer, value),
         [name, colon, rest @ ..] => {
             if is_name(name) && is_colon(colon, line) {
                 *value = label_of(name.text(line), line, rest)?;
                 Ok(())
             } else {
-                led(line, lexemes, buffer, value)
+                line_without_label(line, lexemes, buffer, value)
             }
         }
     }
@@ -657,7 +657,7 @@ fn reading_of(line: &[u8], buffers: &mut LineBuffers, value: &mut Line) -> Resul
     ensures { put result value.new ≡ reading_of line.now }
 {
     lexemes_into(line, &mut buffers.lexemes)?;
-    value_of(line, buffers.lexemes.as_slice(), &mut buffers.tokens, value)
+    line_of(line, buffers.lexemes.as_slice(), &mut buffers.tokens, value)
 }
 
 /// Whether the instruction of a slot line is listed.

@@ -10,7 +10,7 @@ use Rattle.asm_lexemes.proofs.Lexed.{lexed}
 use Rattle.asm_lexemes.proofs.Lexing.{name_lexed}
 use Rattle.asm_lexemes.proofs.Readings.{pr_reads, decimal_is_name_bytes, decimal_is_plain, both_plain}
 use Rattle.asm_reading.specs.declared.line.Line.TheVariants as line
-use Rattle.asm_reading.specs.Lines.{KindAndText, value_of, reading_of, relation_of}
+use Rattle.asm_reading.specs.Lines.{KindAndText, line_of, reading_of, relation_of}
 use Rattle.asm_reading.proofs.TwoPredicates.{two_read}
 use Rattle.asm_text.proofs.SlotLines.{read_plain}
 
@@ -38,7 +38,7 @@ relation_lexed p q lp lq =
     (name_lexed 112 (decimal p) rest refl refl (decimal_is_name_bytes p lp) refl
     ∙ ap (λ ws. (kind.Name, 112 ∷ decimal p) ∷ ws) (last_lexed q lq))
 
-relation_value : (p q : ℕ) → 1 ≤ p → p < q → q ≤ 15 → value_of (words p q) ≡ Ok (line.Relation (p ∷ q ∷ []))
+relation_value : (p q : ℕ) → 1 ≤ p → p < q → q ≤ 15 → line_of (words p q) ≡ Ok (line.Relation (p ∷ q ∷ []))
 relation_value p q some less few =
     ap (λ x. relation_of (t.Mutex ∷ t.Comma ∷ x ∷ t.Comma ∷ token_of kind.Name (112 ∷ decimal q) ∷ []))
     (pr_reads p (omega (arith, less, few)))
@@ -53,4 +53,4 @@ relation_reads p q some less few =
     both_plain (codes ".pred.rel \"mutex\",p" ++ decimal p ++ codes ",p") (decimal q)
     (both_plain (codes ".pred.rel \"mutex\",p" ++ decimal p) (codes ",p")
     (both_plain (codes ".pred.rel \"mutex\",p") (decimal p) refl (decimal_is_plain p lp)) refl) (decimal_is_plain q lq) in
-    read_plain (relation_text p q) plain ∙ ap value_of (relation_lexed p q lp lq) ∙ relation_value p q some less few
+    read_plain (relation_text p q) plain ∙ ap line_of (relation_lexed p q lp lq) ∙ relation_value p q some less few

@@ -36,7 +36,7 @@ use Rattle.asm_instructions.specs.Instructions.{op_of}
 use Rattle.asm_reading.specs.declared.line.Draft.{Draft}
 use Rattle.asm_reading.specs.declared.line.Line.{Line}
 use Rattle.asm_reading.specs.declared.line.Line.TheVariants as line
-use Rattle.asm_reading.specs.Lines.{◌>>=◌, or_fault, KindAndText, tokens, label_name, is_open, is_close, lead_at, led_at, is_some_stop, ends_in_stop, without_stop, predicate_of, is_bare, draft_of, completers_or_none, slot_of, worded, led, is_name_lexeme, is_colon, value_of, reading_of}
+use Rattle.asm_reading.specs.Lines.{◌>>=◌, or_fault, KindAndText, tokens, label_name, is_open, is_close, lead_at, led_at, is_some_stop, ends_in_stop, without_stop, predicate_of, is_bare, draft_of, completers_or_none, slot_of, line_led_by_name, line_without_label, is_name_lexeme, is_colon, line_of, reading_of}
 use Rattle.asm_printing.specs.SlotTexts.{label_text, spaced, mnemonic_text, predicate_text, stop_text, target_of, or_zero, slot_text}
 use Rattle.asm_reading.proofs.NoMarks.{name_is_not_open}
 use Rattle.asm_reading.proofs.SlotForms.{slot_first, found_read}
@@ -106,7 +106,7 @@ neither : {A : Type 0} (a b : Bool) (x y : A) → b ≡ false → cond (a && b) 
 neither true b x y h = rw h refl
 neither false b x y h = refl
 
-no_label : (w : KindAndText) (ws : List KindAndText) → begins_colon (tokens ws) ≡ false → value_of (w ∷ ws) ≡ led (w ∷ ws)
+no_label : (w : KindAndText) (ws : List KindAndText) → begins_colon (tokens ws) ≡ false → line_of (w ∷ ws) ≡ line_without_label (w ∷ ws)
 no_label w [] h = refl
 no_label w (x ∷ ws) h = neither (is_name_lexeme w) (is_colon (token_of x.0 x.1)) _ _ h
 
@@ -172,25 +172,25 @@ slot_reads x before after qp name stop back printed p seen n =
 worded_reads : (x : Op) (before after : List KindAndText) (qp : ℕ) (name : Option (List ℕ)) (stop : Bool) → ReadsBack x
     → AllByRecursion IsPrinted (tokens_of x) → predicate_of (tokens before) ≡ Ok qp
     → tokens after ≡ tokens_of x ++ stops stop → label_name (items_of x) after ≡ name
-    → worded (name_of_op x) before after ≡ Ok (line.Slot (draft qp (untargeted x) name false) stop)
+    → line_led_by_name (name_of_op x) before after ≡ Ok (line.Slot (draft qp (untargeted x) name false) stop)
 worded_reads x before after qp name stop back printed p seen n =
     let found = row_back (form_of x) (completers_of x) (operands_of x) back.choice back.fits in
     slot_first (named_forms (name_of_op x)) (is_spelled (tokens_of x)) (form_of x)
     (name_of_op x) before after (named_slots (form_of x) (completers_of x) back.slot) found
     ∙ slot_reads x before after qp name stop back printed p seen n
 
-led_from : (ws : List KindAndText) (k : ℕ) → lead_at (tokens ws) ≡ Some k → led ws ≡ led_at ws (Some k)
+led_from : (ws : List KindAndText) (k : ℕ) → lead_at (tokens ws) ≡ Some k → line_without_label ws ≡ led_at ws (Some k)
 led_from ws k e = ap (led_at ws) e
 
 -- A line with no predicate: the mnemonic and what follows it.
 plain_value : (x : Op) (rest : List ℕ) (name : Option (List ℕ)) (stop : Bool) → ReadsBack x → AllByRecursion IsPrinted (tokens_of x)
     → is_end rest ≡ true
     → tokens (lexed 0 rest) ≡ tokens_of x ++ stops stop → label_name (items_of x) (lexed 0 rest) ≡ name
-    → value_of (lexed 0 (name_of_op x ++ rest)) ≡ Ok (line.Slot (draft 0 (untargeted x) name false) stop)
+    → line_of (lexed 0 (name_of_op x ++ rest)) ≡ Ok (line.Slot (draft 0 (untargeted x) name false) stop)
 plain_value x rest name stop back printed e seen n =
     let m = name_of_op x in
     let ws = lexed 0 rest in
-    ap value_of (mnemonic_lexed (form_of x) (completers_of x) rest e)
+    ap line_of (mnemonic_lexed (form_of x) (completers_of x) rest e)
     ∙ no_label (kind.Name, m) ws (ap begins_colon seen ∙ operands_begin (tokens_of x) stop printed)
     ∙ led_from ((kind.Name, m) ∷ ws) 0 (lead_first m ws)
     ∙ worded_reads x [] ws 0 name stop back printed refl seen n
@@ -206,7 +206,7 @@ guarded_lexed qp after small =
 guarded_value : (x : Op) (qp : ℕ) (rest : List ℕ) (name : Option (List ℕ)) (stop : Bool) → ReadsBack x
     → AllByRecursion IsPrinted (tokens_of x) → qp < 64 → is_end rest ≡ true
     → tokens (lexed 0 rest) ≡ tokens_of x ++ stops stop → label_name (items_of x) (lexed 0 rest) ≡ name
-    → value_of (lexed 0 (codes "(p" ++ decimal qp ++ codes ") " ++ (name_of_op x ++ rest)))
+    → line_of (lexed 0 (codes "(p" ++ decimal qp ++ codes ") " ++ (name_of_op x ++ rest)))
     ≡ Ok (line.Slot (draft qp (untargeted x) name false) stop)
 guarded_value x qp rest name stop back printed small e seen n =
     let m = name_of_op x in
@@ -218,7 +218,7 @@ guarded_value x qp rest name stop back printed small e seen n =
     guarded_lexed qp (m ++ rest) small ∙ ap (λ y. (kind.Mark, codes "(") ∷ (kind.Name, 112 ∷ decimal qp) ∷ (kind.Mark, codes ")") ∷ y)
     (mnemonic_lexed (form_of x) (completers_of x) rest e) in
     let qualified : predicate_of (tokens before) ≡ Ok qp = ap (λ y. predicate_of (t.OpenParenthesis ∷ y ∷ t.CloseParenthesis ∷ [])) reads in
-    ap value_of cut
+    ap line_of cut
     ∙ led_from ((kind.Mark, codes "(") ∷ (kind.Name, 112 ∷ decimal qp) ∷ (kind.Mark, codes ")") ∷ (kind.Name, m) ∷ ws) 3
     (lead_fourth (token_of kind.Name (112 ∷ decimal qp)) (token_of kind.Name m ∷ tokens ws) (ap is_close reads))
     ∙ worded_reads x before ws qp name stop back printed qualified seen n
@@ -226,7 +226,7 @@ guarded_value x qp rest name stop back printed small e seen n =
 predicated : (b : Bool) (x : Op) (qp : ℕ) (rest : List ℕ) (name : Option (List ℕ)) (stop : Bool) → eqb qp 0 ≡ b → ReadsBack x
     → AllByRecursion IsPrinted (tokens_of x) → qp < 64 → is_end rest ≡ true
     → tokens (lexed 0 rest) ≡ tokens_of x ++ stops stop → label_name (items_of x) (lexed 0 rest) ≡ name
-    → value_of (lexed 0 (cond b [] (codes "(p" ++ decimal qp ++ codes ") ") ++ (name_of_op x ++ rest)))
+    → line_of (lexed 0 (cond b [] (codes "(p" ++ decimal qp ++ codes ") ") ++ (name_of_op x ++ rest)))
     ≡ Ok (line.Slot (draft qp (untargeted x) name false) stop)
 predicated true x qp rest name stop z back printed small e seen n =
     plain_value x rest name stop back printed e seen n ∙ ap (λ q. Ok (line.Slot (draft q (untargeted x) name false) stop))
@@ -282,8 +282,8 @@ parts_plain pr m text stop hp hm ht =
 parts_lexed : (pr m d s : List ℕ) → lexed 0 (codes "  " ++ pr ++ m ++ d ++ s) ≡ lexed 0 (pr ++ (m ++ (d ++ s)))
 parts_lexed pr m d s = ap (lexed 0) (append_assoc (pr ++ m) d s ∙ append_assoc pr m (d ++ s))
 
-pub read_plain : (bytes : List ℕ) → has_only_plain bytes ≡ true → reading_of bytes ≡ value_of (lexed 0 bytes)
-read_plain bytes h = cond-true (has_only_plain bytes) _ _ h ∙ ap value_of (lexemes_lexed bytes)
+pub read_plain : (bytes : List ℕ) → has_only_plain bytes ≡ true → reading_of bytes ≡ line_of (lexed 0 bytes)
+read_plain bytes h = cond-true (has_only_plain bytes) _ _ h ∙ ap line_of (lexemes_lexed bytes)
 
 -- The operands of a line by the number of their target.
 line_back : (x : Op) (qp : ℕ) (target : Option ℕ) (stop : Bool) → ReadsBack x → AllByRecursion IsPrinted (tokens_of x) → qp < 64
@@ -309,7 +309,7 @@ line_back x qp target stop back printed small apart same near names =
     (parts_plain (predicate_text qp) m text stop (predicate_plain (eqb qp 0) qp small)
     (name_bytes_are_plain m (mnemonic_bytes (form_of x) (completers_of x)))
     (operands_plain (or_zero target) is (tokens_of x) l printed))
-    ∙ ap value_of (parts_lexed (predicate_text qp) m (spaced text) (stop_text stop))
+    ∙ ap line_of (parts_lexed (predicate_text qp) m (spaced text) (stop_text stop))
     ∙ predicated (eqb qp 0) x qp rest (option_map label_text target) stop refl back printed small (tail_ends text stop) seen name
 
 map_twice : {A B C : Type 0} (c : C) (f : A → B) (d : Option A) → option_map (λ a. c) d ≡ option_map (λ b. c) (option_map f d)

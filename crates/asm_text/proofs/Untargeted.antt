@@ -24,7 +24,7 @@ use Rattle.formats_b.specs.RowIndexesF.{row_index_of as row_index_f}
 use Rattle.formats_b.proofs.WordsF.{row_f, of_row_f}
 use Rattle.formats_b.specs.ListedX.{rows as rows_x, IsListedX}
 use Rattle.formats_b.specs.RowIndexesX.{row_index_of as row_index_x}
-use Rattle.formats_b.specs.PartsX.{slot_op, IsWithin}
+use Rattle.formats_b.specs.PartsX.{slot_op, HasNumberInRange}
 use Rattle.formats_b.proofs.WordsX.{row_of_x, of_row_x}
 use Rattle.ia_program.specs.Listed.{IsListed}
 use Rattle.asm_text.specs.ReadBack.{untargeted}
@@ -83,8 +83,8 @@ pub aimed_f : (qp : ℕ) (x : Op) (z : ℤ) → FitsSigned 21 z → IsListedF (r
 aimed_f qp x z near l = of_row_f _ (row_aimed_f qp x z near (row_f _ l))
 
 row_aimed_x : (qp : ℕ) (x : Op) (z : ℤ) → AsRow rows_x (row_index_x (opcode_of (slot_op x))) (record { qp = qp; op = slot_op x })
-    → IsWithin x
-    → AsRow rows_x (row_index_x (opcode_of (slot_op (aimed z x)))) (record { qp = qp; op = slot_op (aimed z x) }) × IsWithin (aimed z x)
+    → HasNumberInRange x
+    → AsRow rows_x (row_index_x (opcode_of (slot_op (aimed z x)))) (record { qp = qp; op = slot_op (aimed z x) }) × HasNumberInRange (aimed z x)
 unfolding rows_x listed
 row_aimed_x qp x z h within = grind arith
 

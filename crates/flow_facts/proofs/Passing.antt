@@ -12,7 +12,7 @@ use Rattle.ia_program.proofs.Reaching.{place_at-number}
 use Rattle.ia_meaning.specs.Sequence.{first_of}
 use Rattle.predicate_rel.specs.declared.edge.Edge.{Edge}
 use Rattle.predicate_rel.specs.declared.edge.Edge.TheVariants.{Falls, Taken}
-use Rattle.predicate_rel.specs.Pairs.{Table, Pairs, pairs_of, IsWithin}
+use Rattle.predicate_rel.specs.Pairs.{FactRows, Pairs, pairs_of, IsSubset}
 use Rattle.predicate_rel.specs.Rules.{action_rule, pairs_by}
 use Rattle.predicate_rel.proofs.RuleLaws.{WhyMissing, whatever, since, why_missing, pairs_after-within}
 use Rattle.predicate_rel.proofs.EdgeEnds.{falls_next}
@@ -26,12 +26,12 @@ use Rattle.flow_facts.proofs.Numbering.{number_below, cases_place, value_at-plac
 use Rattle.flow_facts.proofs.Marks.{no_progress, progress_marked, progress_same, progress_twice, same_trans, come_shrinks, dirty_count-set, dirty_count-less}
 
 -- More before a place is more past it.
-pub past_within : (p : Program) (from : Place) (e : Edge) (f g : Pairs) → IsWithin f g
-    → IsWithin (pairs_past p from e f) (pairs_past p from e g)
+pub past_within : (p : Program) (from : Place) (e : Edge) (f g : Pairs) → IsSubset f g
+    → IsSubset (pairs_past p from e f) (pairs_past p from e g)
 unfolding pairs_past
 past_within p from e f g w = of (insn_at p.bundles from)
   where
-    of : (o : Option Insn) → IsWithin (pairs_past_insn o e f) (pairs_past_insn o e g)
+    of : (o : Option Insn) → IsSubset (pairs_past_insn o e f) (pairs_past_insn o e g)
     of None = w
     of (Some insn) = pairs_after-within f g insn e w
 
@@ -99,13 +99,13 @@ pub witnessed_by : (p : Program) (t t' : List Known) (to : Place) (out : Pairs) 
     → Joined t t' to out → IsWitnessed p t'
 witnessed_by p t t' to out wit came joined = record { at = λ k rows is. at k rows is (cases_place k to) }
   where
-    here : (rows : Table) → known_at t' to ≡ Some rows → IsWitnessedAt p to (pairs_of rows)
+    here : (rows : FactRows) → known_at t' to ≡ Some rows → IsWitnessedAt p to (pairs_of rows)
     here rows is = record {
       reached = came.reached;
       lacking = λ x y n. elim (joined.lacking rows is x y n) [ inl m ↦ came.lacking x y m | inr m ↦ (wit.at to m.0 m.1).lacking x y m.2 ];
     }
 
-    at : (k : Place) (rows : Table) → known_at t' k ≡ Some rows → (k ≡ to) ⊎ (k ≡ to → ⊥) → IsWitnessedAt p k (pairs_of rows)
+    at : (k : Place) (rows : FactRows) → known_at t' k ≡ Some rows → (k ≡ to) ⊎ (k ≡ to → ⊥) → IsWitnessedAt p k (pairs_of rows)
     at k rows is (inl e) = subst (λ (q : Place). IsWitnessedAt p q (pairs_of rows)) (sym e) (here rows (ap (known_at t') (sym e) ∙ is))
     at k rows is (inr e) = wit.at k rows (sym (joined.others k e) ∙ is)
 
@@ -189,7 +189,7 @@ passed_same p from e to before t t' d wit here came same less =
     passed_by p from e to before t t' d d wit here came (progress_same t t' d to _ came.joined same) (omega (arith, less))
 
 -- What is known at a place that is gone on from may pass along its edges.
-pub may_pass : (p : Program) (t : List Known) (d : List ℕ) (n rows : ℕ) (e : Edge) (before : Table) → IsBetweenSteps p t d
+pub may_pass : (p : Program) (t : List Known) (d : List ℕ) (n rows : ℕ) (e : Edge) (before : FactRows) → IsBetweenSteps p t d
     → known_at t (place_at n) ≡ Some before → rows ≡ get_or d n 0 → MayPass p (place_at n) e rows t before
 may_pass p t d n rows e before u known taken = record {
   witnessed = u.witnessed;
@@ -200,7 +200,7 @@ may_pass p t d n rows e before u known taken = record {
 }
 
 -- And does so after it has passed along a fall, which leads to another place.
-pub may_pass_on : (p : Program) (from : Place) (e : Edge) (rows : ℕ) (t t' : List Known) (d d' : List ℕ) (before : Table)
+pub may_pass_on : (p : Program) (from : Place) (e : Edge) (rows : ℕ) (t t' : List Known) (d d' : List ℕ) (before : FactRows)
     → MayPass p from e rows t before → Passed p from Falls (pairs_of before) t d t' d' → MayPass p from e rows t' before
 may_pass_on p from e rows t t' d d' before may passed = record {
   witnessed = passed.witnessed;
@@ -211,7 +211,7 @@ may_pass_on p from e rows t t' d d' before may passed = record {
 }
 
 -- The place is no longer dirty, and what was known there has come along both sorts of edges.
-pub two_passes : (p : Program) (t t1 t2 : List Known) (d d1 d2 : List ℕ) (n : ℕ) (before : Table) → IsBetweenSteps p t d
+pub two_passes : (p : Program) (t t1 t2 : List Known) (d d1 d2 : List ℕ) (n : ℕ) (before : FactRows) → IsBetweenSteps p t d
     → known_at t (place_at n) ≡ Some before → Passed p (place_at n) Falls (pairs_of before) t (set d n 0) t1 d1
     → Passed p (place_at n) Taken (pairs_of before) t1 d1 t2 d2 → IsBetweenSteps p t2 d2
 two_passes p t t1 t2 d d1 d2 n before u is f g = record {
@@ -236,7 +236,7 @@ two_passes p t t1 t2 d d1 d2 n before u is f g = record {
     here e to edge = record {
       older = Some before;
       same = subst (λ (o : Known). IsSameBut (marked d2 from) o (known_at t2 from)) is (all.changed from);
-      came = λ rows q. subst (λ (r : Table). AtMost t2 to (pairs_past p from e (pairs_of r))) (same_Some before rows q) (sorts e to edge);
+      came = λ rows q. subst (λ (r : FactRows). AtMost t2 to (pairs_past p from e (pairs_of r))) (same_Some before rows q) (sorts e to edge);
     }
 
     come : (k : Place) (e : Edge) (to : Place) → HasEdge p k e to → (k ≡ from) ⊎ (k ≡ from → ⊥)
@@ -257,8 +257,8 @@ two_passes p t t1 t2 d d1 d2 n before u is f g = record {
 -- After both passes less is left to lose, or fewer places are to be gone on from.
 pub spread_on : (p : Program) (t t1 t2 : List Known) (d d1 d2 : List ℕ) (n rows : ℕ) → IsBetweenSteps p t d → n < place_count p
     → get_or d n 0 ≢ 0 → (known_at t (place_at n) ≡ None → ⊥) → rows ≡ get_or d n 0
-    → ((before : Table) → MayPass p (place_at n) Falls rows t before → Passed p (place_at n) Falls (pairs_of before) t (set d n 0) t1 d1)
-    → ((before : Table) → MayPass p (place_at n) Taken rows t1 before → Passed p (place_at n) Taken (pairs_of before) t1 d1 t2 d2)
+    → ((before : FactRows) → MayPass p (place_at n) Falls rows t before → Passed p (place_at n) Falls (pairs_of before) t (set d n 0) t1 d1)
+    → ((before : FactRows) → MayPass p (place_at n) Taken rows t1 before → Passed p (place_at n) Taken (pairs_of before) t1 d1 t2 d2)
     → IsBetweenSteps p t2 d2 × (weight t2 + dirty_count d2 < weight t + dirty_count d)
 spread_on p t t1 t2 d d1 d2 n rows u inside dirty some taken falls takes = of (known_at t (place_at n)) refl
   where

@@ -5,7 +5,7 @@ use Rattle.ia_program.specs.Places.{place_at}
 use Rattle.ia_program.specs.Programs.{Program, IsEntry}
 use Rattle.ia_meaning.specs.Sequence.{first_of}
 use Rattle.predicate_rel.specs.declared.edge.Edge.{Edge}
-use Rattle.predicate_rel.specs.Pairs.{Table, Pairs, has_bit, pairs_of, IsWithin}
+use Rattle.predicate_rel.specs.Pairs.{FactRows, Pairs, has_bit, pairs_of, IsSubset}
 use Rattle.predicate_rel.specs.Changes.{AgreeOutside, HasAllRows, Narrows}
 use Rattle.predicate_rel.specs.Rules.{PairRule, pairs_by}
 use Rattle.predicate_rel.specs.Edges.{HasEdge, pairs_past}
@@ -41,9 +41,9 @@ place_count p = 3 * length p.bundles
 
 -- Something is known at the place, and it is within these pairs.
 pub record AtMost (table : List Known) (place : Place) (f : Pairs) : Type 0 where
-  pub rows : Table
+  pub rows : FactRows
   pub is : known_at table place ≡ Some rows
-  pub within : IsWithin (pairs_of rows) f
+  pub within : IsSubset (pairs_of rows) f
 
 -- No place of the new table knows more than before, and none that was reached is lost.
 pub record Shrinks (old new : List Known) : Type 0 where
@@ -56,8 +56,8 @@ pub record Joined (old new : List Known) (to : Place) (out : Pairs) : Type 0 whe
   pub below : AtMost new to out
   pub shrinks : Shrinks old new
   pub others : (place : Place) → place ≢ to → known_at new place ≡ known_at old place
-  pub lacking : (rows : Table) → known_at new to ≡ Some rows → (x y : ℕ) → pairs_of rows x y ≡ false →
-      (out x y ≡ false) ⊎ ((before : Table) × (known_at old to ≡ Some before) × (pairs_of before x y ≡ false))
+  pub lacking : (rows : FactRows) → known_at new to ≡ Some rows → (x y : ℕ) → pairs_of rows x y ≡ false →
+      (out x y ≡ false) ⊎ ((before : FactRows) × (known_at old to ≡ Some before) × (pairs_of before x y ≡ false))
 
 -- A walk ends at the place, and each pair that isn't known there is unknown on some walk that ends there.
 pub record IsWitnessedAt (p : Program) (place : Place) (f : Pairs) : Type 0 where
@@ -66,7 +66,7 @@ pub record IsWitnessedAt (p : Program) (place : Place) (f : Pairs) : Type 0 wher
 
 -- Each place of which the table says something is witnessed by walks in this way.
 pub record IsWitnessed (p : Program) (table : List Known) : Type 0 where
-  pub at : (place : Place) (rows : Table) → known_at table place ≡ Some rows → IsWitnessedAt p place (pairs_of rows)
+  pub at : (place : Place) (rows : FactRows) → known_at table place ≡ Some rows → IsWitnessedAt p place (pairs_of rows)
 
 -- Of what was known at a place, only rows of the word have changed: all of them, where nothing was known.
 abbrev pub IsSameBut : ℕ → Known → Known → Type 0
@@ -80,14 +80,14 @@ IsSameBut changed (Some old) (Some new) = AgreeOutside changed (pairs_of old) (p
 pub record HasCome (table : List Known) (to : Place) (past : Pairs → Pairs) (changed : ℕ) (now : Known) : Type 0 where
   pub older : Known
   pub same : IsSameBut changed older now
-  pub came : (rows : Table) → older ≡ Some rows → AtMost table to (past (pairs_of rows))
+  pub came : (rows : FactRows) → older ≡ Some rows → AtMost table to (past (pairs_of rows))
 
 -- What is known at a place is narrowed to what is also known past a slot with these rules, before which `before` is known and
 -- the rows of the first word have changed since that was last done. It has changed in no rows but those of the last word.
 abbrev pub JoinsThere : (ℕ → ℕ → PairRule) → (changed : ℕ) → (before : Pairs) → (old new : Known) → (rows : ℕ) → Type 0
-JoinsThere rules changed before None new rows = (f : Table) × (new ≡ Some f) × (pairs_of f ≡ pairs_by before rules) × HasAllRows rows
+JoinsThere rules changed before None new rows = (f : FactRows) × (new ≡ Some f) × (pairs_of f ≡ pairs_by before rules) × HasAllRows rows
 JoinsThere rules changed before (Some old) new rows =
-    (f : Table) × (new ≡ Some f) × Narrows rules changed before (pairs_of old) (pairs_of f) rows
+    (f : FactRows) × (new ≡ Some f) × Narrows rules changed before (pairs_of old) (pairs_of f) rows
 
 -- What came is joined into the place of this number, of which it changed no rows but those of the word, and where these are
 -- any, the table can lose less.
@@ -97,14 +97,14 @@ pub record JoinedBy (old new : List Known) (to : ℕ) (out : Pairs) (rows : ℕ)
   pub less : weight new + (if rows == 0 then 0 else 1) ≤ weight old
 
 -- What is known at a place has come along its edges of this sort, but for what has changed since in the rows of the word.
-pub record MayPass (p : Program) (from : Place) (e : Edge) (rows : ℕ) (table : List Known) (before : Table) : Type 0 where
+pub record MayPass (p : Program) (from : Place) (e : Edge) (rows : ℕ) (table : List Known) (before : FactRows) : Type 0 where
   pub witnessed : IsWitnessed p table
   pub known : known_at table from ≡ Some before
   pub come : (to : Place) → HasEdge p from e to → HasCome table to (pairs_past p from e) rows (Some before)
 
 -- The edge's end knows no more than what comes along the edge.
 pub record EdgeSettled (p : Program) (table : List Known) (from : Place) (e : Edge) (to : Place) : Type 0 where
-  pub settles : (rows : Table) → known_at table from ≡ Some rows → AtMost table to (pairs_past p from e (pairs_of rows))
+  pub settles : (rows : FactRows) → known_at table from ≡ Some rows → AtMost table to (pairs_past p from e (pairs_of rows))
 
 -- The rows of the place that are marked: those that have changed since it was last gone on from.
 abbrev pub marked : List ℕ → Place → ℕ

@@ -4,7 +4,7 @@ ghost use Rattle.std.specs.Prelude.{◌≡◌, ◌≢◌, ◌+◌, ◌<◌, List
 ghost use Rattle.std.specs.Option.{option_copied};
 ghost use Rattle.ia_program.specs.declared.place.Place.{Place};
 ghost use Rattle.ia_program.specs.Places.{place_at};
-ghost use Rattle.predicate_rel.specs.Pairs.{Table, no_pairs, pairs_of};
+ghost use Rattle.predicate_rel.specs.Pairs.{FactRows, no_pairs, pairs_of};
 ghost use Rattle.predicate_rel.specs.Edges.{HasEdge, pairs_past};
 ghost use Rattle.flow_facts.specs.Graphs.{with_relations};
 ghost use Rattle.flow_facts.specs.Walks.{Known, known_at, known_first, IsSolution};
@@ -61,7 +61,7 @@ fn pass(
     requires table { length table.old ≡ place_count slots.now }
     requires dirty { length dirty.old ≡ place_count slots.now }
     ensures same_length { length dirty.new ≡ length dirty.old }
-    ensures passed { (before : Table) → MayPass slots.now (place_at from) edge changed table.old before → Passed slots.now (place_at from) edge (pairs_of before) table.old dirty.old table.new dirty.new }
+    ensures passed { (before : FactRows) → MayPass slots.now (place_at from) edge changed table.old before → Passed slots.now (place_at from) edge (pairs_of before) table.old dirty.old table.new dirty.new }
 {
     slots.is_program();
     let Some(slot) = slots.at_number(from) else {

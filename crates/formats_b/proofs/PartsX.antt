@@ -3,7 +3,7 @@ use Rattle.std.proofs.Common.{◌≡◌, ℕ, ◌^◌, ◌<◌, ap, refl, arith}
 use Rattle.bundle_bits.specs.Words.{bits}
 use Rattle.ia_insn.specs.declared.insn.Op.{Op}
 use Rattle.ia_insn.specs.declared.insn.Op.TheVariants.{Movl, Break, Nop}
-use Rattle.formats_b.specs.PartsX.{number_part, move_part, whole_number, whole_move, low_of, slot_op, whole_op, IsWithin}
+use Rattle.formats_b.specs.PartsX.{number_part, move_part, whole_number, whole_move, low_of, slot_op, whole_op, HasNumberInRange}
 
 number_back : (n : ℕ) → n < 2 ^ 62 → whole_number (bits 20 41 n) (number_part n) ≡ n
 number_back n h = omega arith
@@ -11,7 +11,7 @@ number_back n h = omega arith
 move_back : (n : ℕ) → n < 2 ^ 64 → whole_move (bits 22 41 n) (move_part n) ≡ n
 move_back n h = omega arith
 
-pub whole_back : (x : Op) → IsWithin x → whole_op (low_of x) (slot_op x) ≡ x
+pub whole_back : (x : Op) → HasNumberInRange x → whole_op (low_of x) (slot_op x) ≡ x
 whole_back (Movl r1 imm) h = ap (Movl r1) (move_back imm h)
 whole_back (Break unit imm) h = ap (Break unit) (number_back imm h)
 whole_back (Nop unit imm) h = ap (Nop unit) (number_back imm h)
@@ -54,7 +54,7 @@ low_again low (Break unit p) l h = number_low low p l h
 low_again low (Nop unit p) l h = number_low low p l h
 low_again low x l h = absurd h
 
-pub within_again : (low : ℕ) (x : Op) → low < 2 ^ 41 → IsPart x → IsWithin (whole_op low x)
+pub within_again : (low : ℕ) (x : Op) → low < 2 ^ 41 → IsPart x → HasNumberInRange (whole_op low x)
 within_again low (Movl r1 p) l h = move_within low p l
 within_again low (Break unit p) l h = number_within low p l
 within_again low (Nop unit p) l h = number_within low p l

@@ -9,7 +9,7 @@ use Rattle.insn_rows.specs.Rows.{listed}
 use Rattle.insn_rows.specs.Codes.{HasRow}
 use Rattle.insn_rows.proofs.RowBack.{no_row, code_below, only_insn}
 use Rattle.insn_rows.proofs.Laws.{only_word, AsRow, as_row, from_row}
-use Rattle.formats_b.specs.PartsX.{slot_op, whole_op, IsWithin}
+use Rattle.formats_b.specs.PartsX.{slot_op, whole_op, HasNumberInRange}
 use Rattle.formats_b.specs.ListedX.{rows, slot_part, CodeX, IsListedX, OneLongInstruction, OneLongWord}
 use Rattle.formats_b.specs.RowIndexesX.{row_index_of}
 use Rattle.formats_b.proofs.TableX.{are_table, is_row_index_of}
@@ -65,10 +65,10 @@ one_word i l m v w of-v of-w = (
 )
 
 -- A listed instruction has a row for its part, and its immediate has its bits.
-pub row_of_x : (i : Insn) → IsListedX i → AsRow rows (row_index_of (opcode_of (slot_op i.op))) (slot_part i) × IsWithin i.op
+pub row_of_x : (i : Insn) → IsListedX i → AsRow rows (row_index_of (opcode_of (slot_op i.op))) (slot_part i) × HasNumberInRange i.op
 row_of_x i l = (row_x (slot_part i) l.0 l.1.code, l.1.within)
 
-pub of_row_x : (i : Insn) → AsRow rows (row_index_of (opcode_of (slot_op i.op))) (slot_part i) → IsWithin i.op → IsListedX i
+pub of_row_x : (i : Insn) → AsRow rows (row_index_of (opcode_of (slot_op i.op))) (slot_part i) → HasNumberInRange i.op → IsListedX i
 of_row_x i h within =
     let l = from_row rows (row_index_of (opcode_of (slot_op i.op))) (slot_part i) (is_row_index_of (opcode_of (slot_op i.op))) h in
     (l.0, record { code = l.1; low = refl; within = within })

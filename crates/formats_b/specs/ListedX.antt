@@ -4,7 +4,7 @@ use Rattle.std.specs.Prelude.{◌≡◌, ℕ, List}
 use Rattle.ia_insn.specs.declared.insn.Insn.{Insn}
 use Rattle.insn_rows.specs.declared.row.Row.{Row}
 use Rattle.insn_rows.specs.Codes.{HasRow}
-use Rattle.formats_b.specs.PartsX.{low_of, slot_op, IsWithin}
+use Rattle.formats_b.specs.PartsX.{low_of, slot_op, HasNumberInRange}
 use Rattle.formats_b.specs.declared.family_x.rows.TheConstants.{ROWS}
 
 unfoldable pub rows : List Row
@@ -19,7 +19,7 @@ slot_part insn = record { qp = insn.qp; op = slot_op insn.op }
 pub record CodeX (insn : Insn) (l word : ℕ) : Type 0 where
   pub code : HasRow rows (slot_part insn) word
   pub low : l ≡ low_of insn.op
-  pub within : IsWithin insn.op
+  pub within : HasNumberInRange insn.op
 
 -- The instruction is a long one: it has words.
 abbrev pub IsListedX : Insn → Type 0

@@ -44,8 +44,8 @@ whole_op low (Nop unit part) = Nop unit (whole_number low part)
 whole_op low op = op
 
 -- A long immediate has its bits: 64 of a move, and 62 of a break or nop.
-abbrev pub IsWithin : Op → Type 0
-IsWithin (Movl r1 imm) = imm < 2 ^ 64
-IsWithin (Break unit imm) = imm < 2 ^ 62
-IsWithin (Nop unit imm) = imm < 2 ^ 62
-IsWithin op = Unit {0}
+abbrev pub HasNumberInRange : Op → Type 0
+HasNumberInRange (Movl r1 imm) = imm < 2 ^ 64
+HasNumberInRange (Break unit imm) = imm < 2 ^ 62
+HasNumberInRange (Nop unit imm) = imm < 2 ^ 62
+HasNumberInRange op = Unit {0}

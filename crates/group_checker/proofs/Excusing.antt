@@ -5,7 +5,7 @@ use Rattle.std.proofs.lemmas.Bool.{cases_Bool, cases_lt, cases_eq, and_cases, an
 use Rattle.ia_program.specs.declared.place.Place.{Place}
 use Rattle.ia_program.specs.Places.{IsBefore}
 use Rattle.resource_sets.specs.Clashes.{may_write_guard}
-use Rattle.predicate_rel.specs.Pairs.{Table, has_bit, in_range, truth, pairs_of}
+use Rattle.predicate_rel.specs.Pairs.{FactRows, has_bit, in_range, truth, pairs_of}
 use Rattle.predicate_rel.proofs.PairLemmas.{in_range_parts}
 use Rattle.flow_facts.specs.Graphs.{Graph}
 use Rattle.flow_facts.specs.Walks.{Walk, group_since}
@@ -39,7 +39,7 @@ from_on g has_stop es j n m e b w win at here late through = of (cases_eq m n)
     )
 
 -- A pair that is known is one of predicates.
-below_64 : (rows : Table) (guard other : ℕ) → pairs_of rows guard other ≡ true → guard < 64
+below_64 : (rows : FactRows) (guard other : ℕ) → pairs_of rows guard other ≡ true → guard < 64
 unfolding pairs_of
 below_64 rows guard other e =
     let both = and_parts (in_range guard other) (truth rows guard other) e in (in_range_parts guard other both.0).0

@@ -17,7 +17,7 @@ use Rattle.resource_sets.specs.declared.clashes.Rule.TheVariants.{AllocFirst, Cl
 use Rattle.resource_sets.specs.ResourceSets.{has_resource}
 use Rattle.resource_sets.specs.Clashes.{is_resource, clash, clash_of}
 use Rattle.resource_sets.specs.AccessSets.{IsInSet, IsSetOf, ArePartsOf}
-use Rattle.resource_sets.specs.Masks.{may_clash}
+use Rattle.resource_sets.specs.InsnAccesses.{may_clash}
 use Rattle.resource_sets.proofs.AccessSets.{resource_itself}
 use Rattle.resource_sets.proofs.Members.{not_in_none, cases_in, any_of}
 use Rattle.slot_table.specs.declared.slot.Slot.{Slot}

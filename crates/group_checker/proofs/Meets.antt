@@ -3,7 +3,7 @@ use Rattle.std.proofs.Common.{◌≡◌, ℕ, false, Option, None, Some, sym, ap
 use Rattle.ia_insn.specs.declared.insn.Insn.{Insn}
 use Rattle.ia_program.specs.declared.place.Place.{Place}
 use Rattle.predicate_rel.specs.declared.edge.Edge.TheVariants.{Falls}
-use Rattle.predicate_rel.specs.Pairs.{Pairs, IsWithin}
+use Rattle.predicate_rel.specs.Pairs.{Pairs, IsSubset}
 use Rattle.predicate_rel.specs.Rules.{pairs_after}
 use Rattle.predicate_rel.proofs.RuleLaws.{WhyMissing, whatever, since, why_missing, pairs_after-within}
 use Rattle.predicate_rel.specs.Edges.{pairs_past_insn}
@@ -12,15 +12,15 @@ use Rattle.flow_facts.specs.Walks.{Walk, EndsIn, facts_in, IsMeetIn}
 use Rattle.group_checker.specs.Windows.{IsMeetOf}
 use Rattle.order_laws.proofs.Falling.{past_is}
 
-past_insn_within : (o : Option Insn) (f h : Pairs) → IsWithin f h → IsWithin (pairs_past_insn o Falls f) (pairs_past_insn o Falls h)
+past_insn_within : (o : Option Insn) (f h : Pairs) → IsSubset f h → IsSubset (pairs_past_insn o Falls f) (pairs_past_insn o Falls h)
 past_insn_within None f h w = w
 past_insn_within (Some insn) f h w = pairs_after-within f h insn Falls w
 
 -- Who knows more before an instruction knows more past it.
-past_within : (g : Graph) (j : Place) (f h : Pairs) → IsWithin f h → IsWithin (pairs_past_in g j Falls f) (pairs_past_in g j Falls h)
+past_within : (g : Graph) (j : Place) (f h : Pairs) → IsSubset f h → IsSubset (pairs_past_in g j Falls f) (pairs_past_in g j Falls h)
 past_within g j f h w =
-    subst (λ (a : Pairs). IsWithin a (pairs_past_in g j Falls h)) (sym (past_is g j Falls f))
-    (subst (IsWithin (pairs_past_insn (insn_in g j) Falls f)) (sym (past_is g j Falls h)) (past_insn_within (insn_in g j) f h w))
+    subst (λ (a : Pairs). IsSubset a (pairs_past_in g j Falls h)) (sym (past_is g j Falls f))
+    (subst (IsSubset (pairs_past_insn (insn_in g j) Falls f)) (sym (past_is g j Falls h)) (past_insn_within (insn_in g j) f h w))
 
 -- The walks of the new set are those of the old one, gone on past the slot at j.
 pub record GoOn (g : Graph) (j : Place) (IsOld IsNew : Walk → Type 0) : Type 0 where
@@ -43,7 +43,7 @@ pub meet_past : (g : Graph) (j : Place) (IsOld IsNew : Walk → Type 0) (f : Pai
 meet_past g j IsOld IsNew f go meet = record {
   reached = let (w, is) = meet.reached in let (v, new, e) = go.on w is in (v, new);
   sound = λ v new. let (w, is, e) = go.back v new in
-      subst (IsWithin (pairs_past_in g j Falls f)) (sym e) (past_within g j f (facts_in g w) (meet.sound w is));
+      subst (IsSubset (pairs_past_in g j Falls f)) (sym e) (past_within g j f (facts_in g w) (meet.sound w is));
   exact =
       λ x y h. let (w, is, m) = lacks_past g (insn_in g j) IsOld f x y meet (ap (λ (q : Pairs). q x y) (sym (past_is g j Falls f)) ∙ h) in
       let (v, new, e) = go.on w is in (v, new, ap (λ (q : Pairs). q x y) (e ∙ past_is g j Falls (facts_in g w)) ∙ m);

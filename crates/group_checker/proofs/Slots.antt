@@ -21,7 +21,7 @@ use Rattle.flow_facts.specs.Graphs.{Graph, over_program, next_in, IsPlaceIn, IsE
 use Rattle.group_checker.specs.declared.window.EarlierSlot.{EarlierSlot}
 use Rattle.order_laws.specs.Excuses.{accesses_in, accesses_at}
 use Rattle.order_laws.specs.Violations.{clears, clears_in, allocates_at, clears_at}
-use Rattle.group_checker.specs.Windows.{IsWindow, Describes, HasWindow, joins}
+use Rattle.group_checker.specs.Windows.{IsWindow, Describes, HasWindow, goes_on_in_group}
 use Rattle.order_laws.proofs.Falling.{past_is, fall_is, fall_edge}
 use Rattle.group_checker.proofs.Windowing.{Joins}
 
@@ -50,7 +50,7 @@ module _ (g : Graph) (has_stop : Place → Bool) (j : Place) (s : Slot) (d : Des
       ∙ sym (past_is g j Falls f)
 
   -- Control falls from a slot that joins the next one within a group.
-  pub slot_joins : (next : Place) → joins s ≡ true → next_in g j ≡ Some next → Joins g has_stop j next
+  pub slot_joins : (next : Place) → goes_on_in_group s ≡ true → next_in g j ≡ Some next → Joins g has_stop j next
   slot_joins next joined follows =
       let (falls, goes) = and_parts s.falls (not s.stop) joined in
       record {
@@ -60,7 +60,7 @@ module _ (g : Graph) (has_stop : Place → Bool) (j : Place) (s : Slot) (d : Des
       }
 
   -- Where control falls from a slot that doesn't join the next one, a stop follows.
-  pub slot_parts : (next : Place) → joins s ≡ false → IsEdgeIn g j Falls next → has_stop j ≡ true
+  pub slot_parts : (next : Place) → goes_on_in_group s ≡ false → IsEdgeIn g j Falls next → has_stop j ≡ true
   slot_parts next parted edge =
       let fall = fall_is g j next edge in
       let same : Some fall.insn ≡ Some d.insn = sym fall.here ∙ d.here in

@@ -7,7 +7,7 @@ use Rattle.ia_meaning.specs.Actions.{insn_action}
 use Rattle.resource_sets.specs.declared.access.Access.{Access}
 use Rattle.resource_sets.specs.Clashes.{may_write_guard}
 use Rattle.predicate_rel.specs.declared.edge.Edge.TheVariants.{Falls}
-use Rattle.predicate_rel.specs.Pairs.{Pairs, has_bit, pairs_of, IsWithin}
+use Rattle.predicate_rel.specs.Pairs.{Pairs, has_bit, pairs_of, IsSubset}
 use Rattle.predicate_rel.specs.Edges.{may_fall}
 use Rattle.predicate_rel.specs.Rules.{action_rule, pairs_by}
 use Rattle.slot_table.specs.declared.slot.Slot.{Slot}
@@ -26,7 +26,7 @@ pub record IsThrough (g : Graph) (has_stop : Place → Bool) (i j : Place) (w : 
 -- The pairs are those that are known on all of these walks, of which there is one.
 pub record IsMeetOf (g : Graph) (IsOne : Walk → Type 0) (f : Pairs) : Type 0 where
   pub reached : (w : Walk) × IsOne w
-  pub sound : (w : Walk) → IsOne w → IsWithin f (facts_in g w)
+  pub sound : (w : Walk) → IsOne w → IsSubset f (facts_in g w)
   pub exact : (x y : ℕ) → f x y ≡ false → (w : Walk) × IsOne w × (facts_in g w x y ≡ false)
 
 -- The m-th slot of the window.
@@ -95,8 +95,8 @@ abbrev pub IsKnownAt : Graph → Place → Known → Type 0
 IsKnownAt g place known = MatchOption known (NoWalkIn g place) (λ rows. IsMeetIn g place (pairs_of rows))
 
 -- Control may fall from the slot to the next one, where there is one, within a group.
-abbrev pub joins : Slot → Bool
-joins slot = slot.falls && not slot.stop
+abbrev pub goes_on_in_group : Slot → Bool
+goes_on_in_group slot = slot.falls && not slot.stop
 
 -- The bits of the word are the predicates that an instruction with these accesses may write.
 abbrev pub IsGuardMask : ℕ → List Access → Type 0

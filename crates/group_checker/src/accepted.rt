@@ -2,7 +2,7 @@
 
 ghost use Rattle.std.specs.Prelude.{◌≡◌};
 ghost use Rattle.ia_program.specs.Programs.{IsProgram};
-ghost use Rattle.ia_meaning.specs.OrderIndependence.{IsRobust};
+ghost use Rattle.ia_meaning.specs.OrderIndependence.{IsOrderIndependent};
 ghost use Rattle.order_laws.specs.Violations.{HasNoViolation};
 
 use slot_table::SlotTable;
@@ -44,10 +44,10 @@ impl<'p> Accepted<'p> {
 
     /// The law that it is a program without violations, and so order independent: from every start state, for every number of
     /// groups and every order of the writes in each group, groups at once leave what slots one by one leave. It does nothing.
-    pub fn is_robust(&self)
+    pub fn is_order_independent(&self)
         ensures program { IsProgram self.now }
         ensures free { HasNoViolation self.now }
-        ensures robust { IsRobust self.now }
+        ensures order_independent { IsOrderIndependent self.now }
     {
         self.slots.is_program();
     }

@@ -3,7 +3,7 @@
 ghost use Rattle.std.specs.Prelude.{◌≡◌, ℕ, ◌+◌, ◌*◌, ◌^◌, ◌≤◌, ◌<◌, length, IfOk, OnOk};
 ghost use Rattle.ia_program.specs.Places.{place_number};
 ghost use Rattle.ia_program.specs.Programs.{Program, IsProgram};
-ghost use Rattle.ia_meaning.specs.OrderIndependence.{IsRobust};
+ghost use Rattle.ia_meaning.specs.OrderIndependence.{IsOrderIndependent};
 ghost use Rattle.ia_meaning.specs.Sequence.{is_stopped};
 ghost use Rattle.flow_facts.specs.Graphs.{over_program};
 ghost use Rattle.flow_facts.specs.Walks.{IsSolution};
@@ -16,7 +16,7 @@ use crate::report::{Report, SHOWN_LIMIT, Verdict};
 use crate::window::{EarlierSlot, Window};
 use flow_facts::{Analysis, InFacts};
 use ia_program::{Place, Program};
-use resource_sets::{Masks, masks_of};
+use resource_sets::{InsnAccesses, accesses_for};
 use slot_table::{Slot, SlotTable};
 use std::alloc::{AllocError, Global};
 
@@ -32,7 +32,7 @@ fn report_pair(
     n: usize,
     second: Place,
     slot: &Slot,
-    seconds: &Masks,
+    seconds: &InsnAccesses,
     report: &mut Report,
 ) -> Result<(), AllocError>
     requires inside { n < length window.now }
@@ -57,7 +57,7 @@ fn check_pair(
     n: usize,
     second: Place,
     slot: &Slot,
-    seconds: &Masks,
+    seconds: &InsnAccesses,
     report: &mut Report,
 ) -> Result<(), AllocError>
     requires inside { n < length window.now }
@@ -83,7 +83,7 @@ fn check_second(
     window: &[EarlierSlot],
     second: Place,
     slot: &Slot,
-    seconds: &Masks,
+    seconds: &InsnAccesses,
     report: &mut Report,
 ) -> Result<(), AllocError>
     requires place { place_number second < place_bound }
@@ -115,7 +115,7 @@ fn check_slots(alloc: Global, table: &SlotTable, facts: &InFacts) -> Result<Repo
         let Some(slot) = table.at(second) else {
             unreachable!();
         };
-        let seconds = masks_of(slot.qp, &slot.action);
+        let seconds = accesses_for(slot.qp, &slot.action);
         check_second(window.earlier_slots(), second, slot, &seconds, &mut report)?;
         window.move_on(facts.at(second), second, slot, seconds)?;
         let Some(after) = slot.next else {
@@ -148,7 +148,7 @@ fn check_slots(alloc: Global, table: &SlotTable, facts: &InFacts) -> Result<Repo
 /// Want of memory.
 pub fn check<'p>(alloc: Global, program: &'p Program) -> Result<Verdict<'p>, AllocError>
     ensures verdict { IfOk result (IsVerdict program.now) }
-    ensures robust { IfOk result (λ verdict. verdict ≡ Verdict.Accepted program.now → IsRobust program.now) }
+    ensures order_independent { IfOk result (λ verdict. verdict ≡ Verdict.Accepted program.now → IsOrderIndependent program.now) }
 {
     program.is_program();
     let analysis = Analysis::of(alloc, program)?;

@@ -7,7 +7,7 @@ ghost use Rattle.predicate_rel.specs.Pairs.{pairs_of};
 ghost use Rattle.predicate_rel.specs.Rules.{one, action_rule, pairs_by};
 ghost use Rattle.flow_facts.specs.Graphs.{Graph};
 ghost use Rattle.order_laws.specs.Violations.{clears};
-ghost use Rattle.group_checker.specs.Windows.{Describes, GoesOn, HasAdvanced, IsPassed, joins};
+ghost use Rattle.group_checker.specs.Windows.{Describes, GoesOn, HasAdvanced, IsPassed, goes_on_in_group};
 
 use crate::window::EarlierSlot;
 use ia_meaning::Action;
@@ -15,8 +15,8 @@ use predicate_rel::{Edge, Facts, keeps_pairs};
 use slot_table::Slot;
 
 /// Whether control may fall from a slot to the next one, where there is one, within a group.
-pub(crate) fn joins(slot: &Slot) -> bool
-    ensures { result ≡ joins slot.now }
+pub(crate) fn goes_on_in_group(slot: &Slot) -> bool
+    ensures { result ≡ goes_on_in_group slot.now }
 {
     slot.falls && !slot.stop
 }

@@ -20,7 +20,7 @@ use ia_meaning::Action;
 use ia_program::Place;
 use order_laws::Violation;
 use predicate_rel::has_bit;
-use resource_sets::{Access, AccessSet, Masks, Rule, clash_of, may_clash, may_clash_with};
+use resource_sets::{Access, AccessSet, InsnAccesses, Rule, clash_of, may_clash, may_clash_with};
 use slot_table::Slot;
 
 /// Whether it is an `alloc`.
@@ -71,7 +71,7 @@ fn clash_with(first: &EarlierSlot, a: &AccessSet, b: &Access, broken: &mut Broke
 }
 
 /// Notes the rules that accesses of a set break with those of the second slot.
-fn clashes_with(first: &EarlierSlot, a: &AccessSet, seconds: &Masks, broken: &mut Broken)
+fn clashes_with(first: &EarlierSlot, a: &AccessSet, seconds: &InsnAccesses, broken: &mut Broken)
     ensures { Gains broken.old broken.new (Finds first.now (IsInSet a.now) (Contains seconds.now)) }
 {
     let parts = seconds.parts();
@@ -83,7 +83,7 @@ fn clashes_with(first: &EarlierSlot, a: &AccessSet, seconds: &Masks, broken: &mu
 }
 
 /// Notes the rules that one access of the first slot breaks with those of the second.
-fn clashes_of(first: &EarlierSlot, a: &Access, seconds: &Masks, broken: &mut Broken)
+fn clashes_of(first: &EarlierSlot, a: &Access, seconds: &InsnAccesses, broken: &mut Broken)
     requires { IsNumberInRange a.now.resource }
     ensures { Gains broken.old broken.new (Finds first.now (Contains (a.now ∷ [])) (Contains seconds.now)) }
 {
@@ -93,7 +93,7 @@ fn clashes_of(first: &EarlierSlot, a: &Access, seconds: &Masks, broken: &mut Bro
 }
 
 /// Notes the rules that accesses of two slots break.
-fn clashes(first: &EarlierSlot, seconds: &Masks, broken: &mut Broken)
+fn clashes(first: &EarlierSlot, seconds: &InsnAccesses, broken: &mut Broken)
     ensures { Gains broken.old broken.new (Finds first.now (Contains first.now.masks) (Contains seconds.now)) }
 {
     let parts = first.masks.parts();
@@ -121,7 +121,12 @@ fn may_break_slot_rule(first: &EarlierSlot, slot: &Slot) -> bool
 
 /// Whether it is soon seen that no access of the n-th slot of the window clashes with one of the slot under way, and that
 /// no rule on slots is broken where this comes just after it: the two break no rule.
-pub(crate) fn are_apart(window: &[EarlierSlot], n: usize, slot: &Slot, seconds: &Masks) -> bool
+pub(crate) fn are_apart(
+    window: &[EarlierSlot],
+    n: usize,
+    slot: &Slot,
+    seconds: &InsnAccesses,
+) -> bool
     requires inside { n < length window.now }
     ensures { result ≡ true → (g : Graph) (has_stop : Place → Bool) (j : Place) (v : Violation) → HasWindow g has_stop window.now j slot.now seconds.now → IsNthPair window.now n j v → ¬ ViolatesIn g has_stop v }
 {
@@ -134,7 +139,12 @@ pub(crate) fn are_apart(window: &[EarlierSlot], n: usize, slot: &Slot, seconds: 
 
 /// What the n-th slot of the window and the slot under way break on some walk. `seconds` has the accesses of the slot
 /// under way.
-pub(crate) fn pair_broken(window: &[EarlierSlot], n: usize, slot: &Slot, seconds: &Masks) -> Broken
+pub(crate) fn pair_broken(
+    window: &[EarlierSlot],
+    n: usize,
+    slot: &Slot,
+    seconds: &InsnAccesses,
+) -> Broken
     requires inside { n < length window.now }
     ensures { (g : Graph) (has_stop : Place → Bool) (second : Place) → HasWindow g has_stop window.now second slot.now seconds.now → AreBroken g has_stop window.now n second result }
 {
@@ -150,7 +160,12 @@ pub(crate) fn pair_broken(window: &[EarlierSlot], n: usize, slot: &Slot, seconds
 
 /// Whether the n-th slot of the window and the slot under way break a rule on some walk. `seconds` has the accesses of
 /// the slot under way.
-pub(crate) fn breaks_rule(window: &[EarlierSlot], n: usize, slot: &Slot, seconds: &Masks) -> bool
+pub(crate) fn breaks_rule(
+    window: &[EarlierSlot],
+    n: usize,
+    slot: &Slot,
+    seconds: &InsnAccesses,
+) -> bool
     requires inside { n < length window.now }
     ensures { (g : Graph) (has_stop : Place → Bool) (j : Place) → HasWindow g has_stop window.now j slot.now seconds.now → IsTrue result ↔ IsPairViolated g has_stop window.now n j }
 {
@@ -167,7 +182,7 @@ pub(crate) fn first_of_pair(
     n: usize,
     second: Place,
     slot: &Slot,
-    seconds: &Masks,
+    seconds: &InsnAccesses,
 ) -> Option<Violation>
     requires inside { n < length window.now }
     ensures { (g : Graph) (has_stop : Place → Bool) → HasWindow g has_stop window.now second slot.now seconds.now → MatchOption result (¬ IsPairViolated g has_stop window.now n second) (λ v. IsFirstOfPair g has_stop window.now n second v) }

@@ -7,12 +7,12 @@ ghost use Rattle.flow_facts.specs.Graphs.{Graph, next_in};
 ghost use Rattle.group_checker.specs.Firsts.{IsViolatedAt, IsFirstAt};
 ghost use Rattle.group_checker.specs.Windows.{IsWindow, HasWindow, IsKnownAt};
 
-use crate::moves::{advance, clears, joins};
+use crate::moves::{advance, clears, goes_on_in_group};
 use crate::pairs::{breaks_rule, first_of_pair};
 use ia_program::Place;
 use order_laws::Violation;
 use predicate_rel::Facts;
-use resource_sets::Masks;
+use resource_sets::InsnAccesses;
 use slot_table::Slot;
 use std::alloc::{AllocError, Global};
 use std::marker::Model;
@@ -30,7 +30,7 @@ pub(crate) struct EarlierSlot {
     /// is that of the predicate g.
     pub written: u64,
     /// What it accesses.
-    pub masks: Masks,
+    pub masks: InsnAccesses,
 }
 
 /// The slots that are earlier in the group of the slot under way on some walk, in order, with what is known of them there (volume
@@ -77,7 +77,7 @@ impl Window {
 
     /// Whether a slot of the window and the slot under way break a rule on some walk. `masks` has the accesses of the
     /// slot under way.
-    pub fn has_violation(&self, slot: &Slot, masks: &Masks) -> bool
+    pub fn has_violation(&self, slot: &Slot, masks: &InsnAccesses) -> bool
         ensures { (g : Graph) (has_stop : Place → Bool) (j : Place) → HasWindow g has_stop self.now j slot.now masks.now → IsTrue result ↔ IsViolatedAt g has_stop j }
     {
         for m in 0..self.slots.len() {
@@ -90,7 +90,12 @@ impl Window {
 
     /// The first violation with the slot under way, which stands at the place `second`, in the order of violations.
     /// `masks` has its accesses. None exactly where there is no violation.
-    pub fn first_violation(&self, second: Place, slot: &Slot, masks: &Masks) -> Option<Violation>
+    pub fn first_violation(
+        &self,
+        second: Place,
+        slot: &Slot,
+        masks: &InsnAccesses,
+    ) -> Option<Violation>
         ensures { (g : Graph) (has_stop : Place → Bool) → HasWindow g has_stop self.now second slot.now masks.now → MatchOption result (¬ IsViolatedAt g has_stop second) (λ v. IsFirstAt g has_stop second v) }
     {
         for n in 0..self.slots.len() {
@@ -113,7 +118,7 @@ impl Window {
         here: Option<&Facts>,
         place: Place,
         slot: &Slot,
-        masks: Masks,
+        masks: InsnAccesses,
     ) -> Result<(), AllocError>
         ensures { OnOk result ((g : Graph) (has_stop : Place → Bool) (next : Place) → IsKnownAt g place (option_copied here.entry) → HasWindow g has_stop self.old place slot.now masks → next_in g place ≡ Some next → IsWindow g has_stop self.new next) }
     {
@@ -121,7 +126,7 @@ impl Window {
             self.slots.clear();
             return Ok(());
         };
-        if !joins(slot) {
+        if !goes_on_in_group(slot) {
             self.slots.clear();
             return Ok(());
         }

@@ -13,7 +13,7 @@ use Rattle.ia_meaning.specs.Runs.{run_text}
 use Rattle.ia_meaning.specs.NumberedRuns.{numbered_run, numbered_codes, NumberedRunIsParallel}
 use Rattle.image_form.specs.Laws.{ImageSize}
 use Rattle.order_laws.specs.Violations.{HasNoViolation}
-use Rattle.order_laws.specs.OrderLaws.{FreeIsRobust}
+use Rattle.order_laws.specs.OrderLaws.{FreeIsOrderIndependent}
 use Rattle.group_engine.specs.Engine.{Engine, begun, after_run}
 use Rattle.watch_seam.specs.Watchers.{WatchState}
 use Rattle.ia64_top.specs.declared.limits.TheConstants.{INPUT_LIMIT, GROUP_LIMIT}
@@ -96,20 +96,20 @@ ended_at_once_within one none arguments c ws left input bytes status e whole o =
     (λ groups number is p g. (numbered_run_given one none c ws input bytes status o groups number is p g).ends)
 
 -- A program without violations leaves in the order with a number what it leaves slot by slot.
-same_run : FreeIsRobust → ZeroIsStart → NumberedRunIsParallel → (groups number : ℕ) (p : Program) → IsProgram p → HasNoViolation p
+same_run : FreeIsOrderIndependent → ZeroIsStart → NumberedRunIsParallel → (groups number : ℕ) (p : Program) → IsProgram p → HasNoViolation p
     → numbered_run_of p groups number ≡ run_of p groups
 same_run law zero parallel groups number p program free =
     parallel p groups number (zero_state p)
     ∙ law p program free groups (numbered_codes groups number p (zero_state p)) (zero_state p) (zero p program)
 
-run_given : FreeIsRobust → ZeroIsStart → NumberedRunIsParallel → (groups number : ℕ) (p : Program) (bytes : List ℕ) (status : Status)
+run_given : FreeIsOrderIndependent → ZeroIsStart → NumberedRunIsParallel → (groups number : ℕ) (p : Program) (bytes : List ℕ) (status : Status)
     → IsNumberedRunOf p groups number bytes status → HasNoViolation p → IsRunOf state_after p groups bytes status
 run_given law zero parallel groups number p bytes status o free =
     let same = same_run law zero parallel groups number p o.program free in
     record {
       program = o.program;
       free = free;
-      robust = law p o.program free;
+      order_independent = law p o.program free;
       printed = o.printed ∙ ap run_text same;
       ends = o.ends ∙ ap (λ (r : WholeRun). end_status r.end) same;
     }
@@ -128,7 +128,7 @@ pub same_as_run_beyond : ImageSize → (arguments : List (List ℕ)) (ws : List 
 same_as_run_beyond size arguments ws left old new h =
     groups_beyond size arguments (λ l groups number p. HasNoViolation p → GivesOutput (run_arguments groups) ws l old new TooLong) left h
 
-pub same_as_run_within : FreeIsRobust → ZeroIsStart → NumberedRunIsParallel → GivesOne as_either → RefusesNone as_either
+pub same_as_run_within : FreeIsOrderIndependent → ZeroIsStart → NumberedRunIsParallel → GivesOne as_either → RefusesNone as_either
     → (arguments : List (List ℕ)) (c : Command) (ws : List WatchState) (left old new : Option (List ℕ)) (input bytes : List ℕ)
     (status : Status) → command_of arguments ≡ Some c → IfSome left (IsReadOf c input)
     → length input ≤ INPUT_LIMIT → IsCommandOutput c ws input bytes status → Appends old new bytes

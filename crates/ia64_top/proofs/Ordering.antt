@@ -5,9 +5,9 @@ use Rattle.std.specs.Io.KnownBytes.{Appends}
 use Rattle.ia_program.specs.Programs.{Program, IsProgram}
 use Rattle.ia_meaning.specs.State.{zero_state, ZeroIsStart}
 use Rattle.ia_meaning.specs.Steps.{Run as WholeRun}
-use Rattle.ia_meaning.specs.OrderIndependence.{IsRobust}
+use Rattle.ia_meaning.specs.OrderIndependence.{IsOrderIndependent}
 use Rattle.order_laws.specs.Violations.{HasNoViolation}
-use Rattle.order_laws.specs.OrderLaws.{FreeIsRobust}
+use Rattle.order_laws.specs.OrderLaws.{FreeIsOrderIndependent}
 use Rattle.stop_placer.specs.Laws.{OnePlaced}
 use Rattle.ia64_top.specs.declared.arguments.Command.{Command}
 use Rattle.ia64_top.specs.declared.arguments.Command.TheVariants.{Stops, Check, Run, Watch, Trace, Trial}
@@ -61,38 +61,38 @@ ran Faulted c t = tt
 ran status c t = absurd t
 
 -- A program that is free is order independent, and what is read is one program.
-robust_given : FreeIsRobust → GivesOne as_either → (input : List ℕ) (q : Program) → as_either.Gives input q → IsProgram q → HasNoViolation q
-    → (p : Program) → as_either.Gives input p → IsRobust p
-robust_given law one input q gives program free p g = subst IsRobust (one input q p gives g) (law q program free)
+order_independent_given : FreeIsOrderIndependent → GivesOne as_either → (input : List ℕ) (q : Program) → as_either.Gives input q → IsProgram q → HasNoViolation q
+    → (p : Program) → as_either.Gives input p → IsOrderIndependent p
+order_independent_given law one input q gives program free p g = subst IsOrderIndependent (one input q p gives g) (law q program free)
 
-robust_run : FreeIsRobust → GivesOne as_either → (text : Printing) (groups : ℕ) (input bytes : List ℕ) (status : Status) → Ran status
-    → IsRunAs text groups as_either input bytes status → (p : Program) → as_either.Gives input p → IsRobust p
-robust_run law one text groups input bytes status ran o p g =
+order_independent_run : FreeIsOrderIndependent → GivesOne as_either → (text : Printing) (groups : ℕ) (input bytes : List ℕ) (status : Status) → Ran status
+    → IsRunAs text groups as_either input bytes status → (p : Program) → as_either.Gives input p → IsOrderIndependent p
+order_independent_run law one text groups input bytes status ran o p g =
     let a = accepted_run text groups input bytes status ran o in
     let at = a.1.accepts in
-    robust_given law one input a.0 at.gives at.program at.free p g
+    order_independent_given law one input a.0 at.gives at.program at.free p g
 
-robust_program : FreeIsRobust → GivesOne as_either → OnePlaced
+order_independent_program : FreeIsOrderIndependent → GivesOne as_either → OnePlaced
     → (status : Status) (c : Command) (ws : List WatchState) (all input bytes : List ℕ) → TellsAccepted status c → IsReadOf c input all
     → IsCommandOutput c ws input bytes status
-    → (p : Program) → IsProgramOf c all p → IsRobust p
-robust_program law one placed Done Check ws all input bytes t is o p g =
+    → (p : Program) → IsProgramOf c all p → IsOrderIndependent p
+order_independent_program law one placed Done Check ws all input bytes t is o p g =
     let j = o.2 in
     let done = done_of_judgement o.0 bytes Done o.2 in
-    robust_given law one input o.0 o.1 j.program (done.0 refl) p (subst (λ i. as_either.Gives i p) (sym is) g)
-robust_program law one placed Done Stops ws all input bytes t is o p g =
+    order_independent_given law one input o.0 o.1 j.program (done.0 refl) p (subst (λ i. as_either.Gives i p) (sym is) g)
+order_independent_program law one placed Done Stops ws all input bytes t is o p g =
     let text = o.2 in
-    subst IsRobust (loose_gives_one placed input o.0 p o.1 (subst (λ i. as_loose.Gives i p) (sym is) g)) (law o.0 text.valid text.free)
-robust_program law one placed Done (Trial seed bundles) ws all input bytes t is o p g = subst IsRobust (sym g) o.robust
-robust_program law one placed status (Run groups) ws all input bytes t is o p g =
-    robust_run law one state_after groups input bytes status (ran status (Run groups) t) o p (subst (λ i. as_either.Gives i p) (sym is) g)
-robust_program law one placed status (Watch groups) ws all input bytes t is o p g =
-    robust_run law one (watch_text ws) groups input bytes status (ran status (Watch groups) t) o p
+    subst IsOrderIndependent (loose_gives_one placed input o.0 p o.1 (subst (λ i. as_loose.Gives i p) (sym is) g)) (law o.0 text.valid text.free)
+order_independent_program law one placed Done (Trial seed bundles) ws all input bytes t is o p g = subst IsOrderIndependent (sym g) o.order_independent
+order_independent_program law one placed status (Run groups) ws all input bytes t is o p g =
+    order_independent_run law one state_after groups input bytes status (ran status (Run groups) t) o p (subst (λ i. as_either.Gives i p) (sym is) g)
+order_independent_program law one placed status (Watch groups) ws all input bytes t is o p g =
+    order_independent_run law one (watch_text ws) groups input bytes status (ran status (Watch groups) t) o p
     (subst (λ i. as_either.Gives i p) (sym is) g)
-robust_program law one placed status (Trace first count) ws all input bytes t is o p g =
-    robust_run law one (trace_text first count) (first + count) input bytes status (ran status (Trace first count) t) o p
+order_independent_program law one placed status (Trace first count) ws all input bytes t is o p g =
+    order_independent_run law one (trace_text first count) (first + count) input bytes status (ran status (Trace first count) t) o p
     (subst (λ i. as_either.Gives i p) (sym is) g)
-robust_program law one placed status c ws all input bytes t is o p g = absurd t
+order_independent_program law one placed status c ws all input bytes t is o p g = absurd t
 
 same_run : (text : Printing) (groups : ℕ) (p : Program) (codes : List (List ℕ)) → ((n : ℕ) → ordered_run_of p codes n ≡ run_of p n)
     → (bytes : List ℕ) (status : Status) → IsRunOf text p groups bytes status
@@ -101,7 +101,7 @@ same_run text groups p codes same bytes status o =
     let all : ordered_run_of p codes ≡ run_of p = λ i n. same n i in
     (o.printed ∙ sym (ap (λ runs. text runs groups) all), o.ends ∙ sym (ap (λ (r : WholeRun). end_status r.end) (same groups)))
 
-each_order : FreeIsRobust → ZeroIsStart → GivesOne as_either → (text : Printing) (groups : ℕ) (input bytes : List ℕ) (status : Status)
+each_order : FreeIsOrderIndependent → ZeroIsStart → GivesOne as_either → (text : Printing) (groups : ℕ) (input bytes : List ℕ) (status : Status)
     → Ran status → IsRunAs text groups as_either input bytes status
     → (p : Program) → as_either.Gives input p → IsRunOfEveryOrder text p groups bytes status
 each_order law zero one text groups input bytes status ran o p g =
@@ -113,7 +113,7 @@ each_order law zero one text groups input bytes status ran o p g =
     k.runs)
 
 -- The command runs this number of groups of what it reads.
-each_order_of : FreeIsRobust → ZeroIsStart → GivesOne as_either
+each_order_of : FreeIsOrderIndependent → ZeroIsStart → GivesOne as_either
     → (c : Command) (groups : ℕ) (ws : List WatchState) (input bytes : List ℕ) (status : Status) → groups_of c ≡ Some groups
     → TellsAccepted status c → IsCommandOutput c ws input bytes status
     → (p : Program) → as_either.Gives input p → IsRunOfEveryOrder (printing_of c ws) p groups bytes status
@@ -134,24 +134,24 @@ each_order_of law zero one c groups ws input bytes status is t o p g = cc
 -- The promise, of arguments and an input.
 abbrev pub Promises : List (List ℕ) → Status → List ℕ → Type 0
 Promises arguments status input =
-    (c : Command) → command_of arguments ≡ Some c → TellsAccepted status c → (p : Program) → IsProgramOf c input p → IsRobust p
+    (c : Command) → command_of arguments ≡ Some c → TellsAccepted status c → (p : Program) → IsProgramOf c input p → IsOrderIndependent p
 
 abbrev pub RunsInEachOrder : List (List ℕ) → List WatchState → Option (List ℕ) → Option (List ℕ) → Status → List ℕ → Type 0
 RunsInEachOrder arguments ws old new status input =
     (c : Command) (groups : ℕ) → command_of arguments ≡ Some c → groups_of c ≡ Some groups → TellsAccepted status c → (p : Program)
     → as_either.Gives input p → GivesRunOfEveryOrder (printing_of c ws) p groups old new status
 
-pub promised : FreeIsRobust → GivesOne as_either → OnePlaced → (arguments : List (List ℕ)) (c : Command) (ws : List WatchState)
+pub promised : FreeIsOrderIndependent → GivesOne as_either → OnePlaced → (arguments : List (List ℕ)) (c : Command) (ws : List WatchState)
     (left : Option (List ℕ)) (input bytes : List ℕ) (status : Status) → command_of arguments ≡ Some c → IfSome left (IsReadOf c input)
     → IsCommandOutput c ws input bytes status → IfSome left (Promises arguments status)
 promised law one placed arguments c ws None input bytes status e whole o = tt
 promised law one placed arguments c ws (Some l) input bytes status e whole o =
     λ d f t p g.
     let is = same_command arguments d c f e in
-    robust_program law one placed status c ws l input bytes (subst (TellsAccepted status) is t) whole o p
+    order_independent_program law one placed status c ws l input bytes (subst (TellsAccepted status) is t) whole o p
     (subst (λ k. IsProgramOf k l p) is g)
 
-pub run_in_each_order : FreeIsRobust → ZeroIsStart → GivesOne as_either
+pub run_in_each_order : FreeIsOrderIndependent → ZeroIsStart → GivesOne as_either
     → (arguments : List (List ℕ)) (c : Command) (ws : List WatchState) (left old new : Option (List ℕ)) (input bytes : List ℕ)
     (status : Status) → command_of arguments ≡ Some c → IfSome left (IsReadOf c input)
     → IsCommandOutput c ws input bytes status → Appends old new bytes → IfSome left (RunsInEachOrder arguments ws old new status)

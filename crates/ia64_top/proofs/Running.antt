@@ -13,7 +13,7 @@ use Rattle.ia_meaning.specs.Runs.{HasRun, ProgressIsRun, run_text}
 use Rattle.ia_meaning.specs.StateText.{state_text}
 use Rattle.ia_meaning.proofs.GroupEnds.{zero_is_place}
 use Rattle.order_laws.specs.Violations.{HasNoViolation}
-use Rattle.ia_meaning.specs.OrderIndependence.{IsRobust}
+use Rattle.ia_meaning.specs.OrderIndependence.{IsOrderIndependent}
 use Rattle.ia64_top.specs.declared.status.Status.{Status}
 use Rattle.ia64_top.specs.declared.status.Status.TheVariants.{Done, Violated, Limit, Faulted, Refused}
 use Rattle.ia64_top.specs.Judgements.{IsJudgement, IsJudgedViolated}
@@ -114,11 +114,11 @@ text_of_progress run groups p m e program came ends =
     let has = has_run run groups p m program came in same_text _ _ _ _ _ _ _ _ (ends ∙ has.end) has.groups has.range has.state
 
 pub run_of_progress : ProgressIsRun → (text : Printing) (groups : ℕ) (p : Program) (m : Progress) (e : End) (bytes : List ℕ)
-    (status : Status) → IsProgram p → HasNoViolation p → IsRobust p → m ≡ groups_further groups p (begun (zero_state p)) → e ≡ end_of m
+    (status : Status) → IsProgram p → HasNoViolation p → IsOrderIndependent p → m ≡ groups_further groups p (begun (zero_state p)) → e ≡ end_of m
     → bytes ≡ text (run_of p) groups → status ≡ end_status e → IsRunOf text p groups bytes status
-run_of_progress run text groups p m e bytes status program free robust came ends printed answered =
+run_of_progress run text groups p m e bytes status program free order_independent came ends printed answered =
     let has = has_run run groups p m program came in
-    record { program = program; free = free; robust = robust; printed = printed; ends = answered ∙ ap end_status (ends ∙ has.end) }
+    record { program = program; free = free; order_independent = order_independent; printed = printed; ends = answered ∙ ap end_status (ends ∙ has.end) }
 
 -- Of the program that was read the watchers have seen the run, and no other program is read.
 pub have_watched : GivesOne as_either → (groups : ℕ) (input : List ℕ) (p : Program) (old now : List WatchState) → as_either.Gives input p

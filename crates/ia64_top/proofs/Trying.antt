@@ -9,7 +9,7 @@ use Rattle.ia_meaning.specs.Progress.{Progress, begun, groups_further, end_of}
 use Rattle.ia_meaning.specs.Runs.{HasRun, ProgressIsRun}
 use Rattle.ia_meaning.proofs.GroupEnds.{zero_is_place}
 use Rattle.order_laws.specs.Violations.{HasNoViolation}
-use Rattle.ia_meaning.specs.OrderIndependence.{IsRobust}
+use Rattle.ia_meaning.specs.OrderIndependence.{IsOrderIndependent}
 use Rattle.trial_maker.specs.Trials.{trial_program}
 use Rattle.watch_seam.specs.Watchers.{WatchState}
 use Rattle.ia64_top.specs.declared.arguments.Command.{Command}
@@ -61,17 +61,17 @@ same_text : (seed bundles : ℕ) (e f : End) (g h : ℕ) (s t : State) → e ≡
 same_text seed bundles e f g h s t ef gh st = rw (ef, gh, st) refl
 
 pub trial_of_progress : ProgressIsRun → (seed bundles : ℕ) (p : Program) (m : Progress) (e : End) (bytes : List ℕ)
-    → p ≡ trial_program seed bundles → IsProgram p → HasNoViolation p → IsRobust p
+    → p ≡ trial_program seed bundles → IsProgram p → HasNoViolation p → IsOrderIndependent p
     → m ≡ groups_further bundles p (begun (zero_state p)) → e ≡ end_of m → bytes ≡ trial_text seed bundles e m.groups m.state.registers
     → IsTrialOf seed bundles bytes
-trial_of_progress run seed bundles p m e bytes made program free robust came ends printed =
+trial_of_progress run seed bundles p m e bytes made program free order_independent came ends printed =
     let has : HasRun m (run_of p bundles) =
     subst (λ x. HasRun x (run_of p bundles)) (sym came) (run bundles p (zero_state p) program (zero_is_place p program)) in
     let text = printed ∙ same_text seed bundles _ _ _ _ _ _ (ends ∙ has.end) has.groups has.state in
     record {
       program = subst IsProgram made program;
       free = subst HasNoViolation made free;
-      robust = subst IsRobust made robust;
+      order_independent = subst IsOrderIndependent made order_independent;
       printed =
           subst (λ q. bytes ≡ trial_text seed bundles (run_of q bundles).end (length (run_of q bundles).events)
           (run_of q bundles).state.registers) made text;

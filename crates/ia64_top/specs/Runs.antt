@@ -8,7 +8,7 @@ use Rattle.ia_meaning.specs.State.{zero_state}
 use Rattle.ia_meaning.specs.Steps.{Run, seq_run}
 use Rattle.ia_meaning.specs.ParallelGroups.{par_run}
 use Rattle.ia_meaning.specs.NumberedRuns.{numbered_run}
-use Rattle.ia_meaning.specs.OrderIndependence.{IsRobust}
+use Rattle.ia_meaning.specs.OrderIndependence.{IsOrderIndependent}
 use Rattle.ia_meaning.specs.Runs.{run_text}
 use Rattle.order_laws.specs.Violations.{HasNoViolation}
 use Rattle.watch_seam.specs.Watchers.{WatchState, line, event_text}
@@ -64,7 +64,7 @@ trace_text first count runs groups = run_text (runs first) ++ traced_groups runs
 pub record IsRunOf (text : Printing) (p : Program) (groups : ℕ) (bytes : List ℕ) (status : Status) : Type 0 where
   pub program : IsProgram p
   pub free : HasNoViolation p
-  pub robust : IsRobust p
+  pub order_independent : IsOrderIndependent p
   pub printed : bytes ≡ text (run_of p) groups
   pub ends : status ≡ end_status (run_of p groups).end
 

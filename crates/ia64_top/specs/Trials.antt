@@ -7,7 +7,7 @@ use Rattle.ia_meaning.specs.declared.state.Cell.{Cell}
 use Rattle.ia_meaning.specs.State.{Registers}
 use Rattle.ia_meaning.specs.Names.{look}
 use Rattle.ia_meaning.specs.StateText.{line, end_text, word_text}
-use Rattle.ia_meaning.specs.OrderIndependence.{IsRobust}
+use Rattle.ia_meaning.specs.OrderIndependence.{IsOrderIndependent}
 use Rattle.order_laws.specs.Violations.{HasNoViolation}
 use Rattle.trial_maker.specs.Trials.{trial_program}
 use Rattle.ia64_top.specs.declared.status.Status.{Status}
@@ -35,7 +35,7 @@ trial_text seed bundles end groups r =
 pub record IsTrialOf (seed bundles : ℕ) (bytes : List ℕ) : Type 0 where
   pub program : IsProgram (trial_program seed bundles)
   pub free : HasNoViolation (trial_program seed bundles)
-  pub robust : IsRobust (trial_program seed bundles)
+  pub order_independent : IsOrderIndependent (trial_program seed bundles)
   pub printed : let run =
       run_of (trial_program seed bundles) bundles in bytes ≡ trial_text seed bundles run.end (length run.events) run.state.registers
 

@@ -267,7 +267,7 @@ fn run_accepted(alloc: Global, groups: u64, accepted: &Accepted<'_>) -> Result<A
     ensures { IfOk result (λ answer. IsRunOf state_after accepted.now groups answer.bytes.items answer.status) }
 {
     progress_is_run();
-    accepted.is_robust();
+    accepted.is_order_independent();
     let mut machine = Machine::open(alloc, accepted.slots())?;
     let end = machine.run(groups);
     Ok(Answer {
@@ -390,7 +390,7 @@ fn try_accepted(
     ensures { IfOk result (λ answer. IsTrialOf seed bundles answer.bytes.items × (answer.status ≡ Status.Done)) }
 {
     progress_is_run();
-    accepted.is_robust();
+    accepted.is_order_independent();
     let mut machine = Machine::open(alloc, accepted.slots())?;
     let end = machine.run(u64::from(bundles));
     Ok(Answer {

@@ -11,7 +11,7 @@ ghost use Rattle.ia64_top.specs.Arguments.{command_of, run_arguments, Judges, gr
 ghost use Rattle.ia64_top.specs.Statuses.{IsAnswer, TellsOfProgram, TellsAccepted, EndsTrial};
 ghost use Rattle.ia64_top.specs.Inputs.{IsReadOf};
 ghost use Rattle.ia_program.specs.Programs.{Program};
-ghost use Rattle.ia_meaning.specs.OrderIndependence.{IsRobust};
+ghost use Rattle.ia_meaning.specs.OrderIndependence.{IsOrderIndependent};
 ghost use Rattle.order_laws.specs.Violations.{HasNoViolation};
 ghost use Rattle.ia64_top.specs.Runs.{run_of, numbered_run_of, end_status};
 ghost use Rattle.ia64_top.specs.Readings.{as_either};
@@ -101,8 +101,8 @@ pub fn ia64<S: Source, K: Sink>(
     // What `accepted` promises. Where `check`, `stops` or `trial` is done, or `run`, `watch` or `trace` prints a state, the
     // program is order independent: from every state at an entry, for every number of groups and every order of the writes in
     // each group, groups at once leave what slots one by one leave.
-    ensures robust { IsAnswer result → IfSome (S.left source.old) (λ input. (command : Command) →
-        command_of arguments.now ≡ Some command → TellsAccepted result command → (program : Program) → IsProgramOf command input program → IsRobust program) }
+    ensures order_independent { IsAnswer result → IfSome (S.left source.old) (λ input. (command : Command) →
+        command_of arguments.now ≡ Some command → TellsAccepted result command → (program : Program) → IsProgramOf command input program → IsOrderIndependent program) }
 
     // Each state that `run`, `watch` and `trace` print is the one of groups at once from the zero state, whatever the order of
     // their writes, and so is what the watchers report.

@@ -35,7 +35,7 @@ pub(crate) fn trace_accepted(
     ensures { IfOk result (λ answer. IsRunOf (trace_text first count) accepted.now (first + count) answer.bytes.items answer.status) }
 {
     progress_is_run();
-    accepted.is_robust();
+    accepted.is_order_independent();
     let mut machine = Machine::open(alloc, accepted.slots())?;
     if first > 0 {
         let _end = machine.run(first);

@@ -56,7 +56,7 @@ pub(crate) fn watch_accepted(
     ensures cut_short { OnErr result (IsCutShort (run_of accepted.now groups).events (map (λ b. state b) watchers.old.items) (map (λ b. state b) watchers.new.items)) }
 {
     progress_is_run();
-    accepted.is_robust();
+    accepted.is_order_independent();
     let mut machine = Machine::open(alloc, accepted.slots())?;
     let mut bytes = watch_groups(alloc, groups, &mut machine, watchers)?;
     let end = machine.ending();

@@ -4,13 +4,13 @@ use Rattle.std.specs.Prelude.{ℤ, pos, negsuc}
 use Rattle.std.proofs.lemmas.Bool.{lt-ltb, le-ltb}
 use Rattle.std.proofs.lemmas.Nat.{pow_pos}
 use Rattle.std.proofs.Math.Nat.{pow-suc}
-use Rattle.ia_insn.specs.Signed.{twos, FitsSigned, signed_of, flag}
+use Rattle.ia_insn.specs.Signed.{twos, FitsSigned, signed_value, flag}
 
 pub half : (width : ℕ) → 1 ≤ width → 2 ^ width ≡ 2 ^ (width - 1) + 2 ^ (width - 1)
 half width h = ap (λ k. 2 ^ k) (let e : width ≡ suc (width - 1) = omega arith in e) ∙ pow-suc 2 (width - 1) ∙ (omega arith)
 
 -- two's complement and back.
-pub signed-twos : (width : ℕ) → 1 ≤ width → (z : ℤ) → FitsSigned width z → signed_of width (twos width z) ≡ z
+pub signed-twos : (width : ℕ) → 1 ≤ width → (z : ℤ) → FitsSigned width z → signed_value width (twos width z) ≡ z
 signed-twos width h (pos n) fit = rw (lt-ltb n (2 ^ (width - 1)) fit) refl
 signed-twos width h (negsuc n) fit =
     let e = half width h in

@@ -13,8 +13,8 @@ FitsSigned width (pos n) = n < 2 ^ (width - 1)
 FitsSigned width (negsuc n) = n < 2 ^ (width - 1)
 
 -- The signed number that has these bits.
-abbrev pub signed_of : ℕ → ℕ → ℤ
-signed_of width n = if nat_lt n (2 ^ (width - 1)) then pos n else negsuc (2 ^ width - suc n)
+abbrev pub signed_value : ℕ → ℕ → ℤ
+signed_value width n = if nat_lt n (2 ^ (width - 1)) then pos n else negsuc (2 ^ width - suc n)
 
 -- A choice as a bit.
 abbrev pub flag : Bool → ℕ

@@ -1,6 +1,6 @@
 -- What integer instructions compute, in whole numbers (volume 3, chapter 2).
 use Rattle.std.specs.Prelude.{ℕ, ℤ, ◌+◌, ◌-◌, ◌*◌, ◌/◌, ◌%◌, ◌^◌, Bool, not, ◌||◌, if◌then◌else◌, Option, Some, None, nat_lt, ◌==◌, min, bit_and, bit_or, bit_xor, int_lt, int_le}
-use Rattle.ia_insn.specs.Signed.{twos, signed_of}
+use Rattle.ia_insn.specs.Signed.{twos, signed_value}
 use Rattle.ia_insn.specs.declared.choices.AluFn.{AluFn}
 use Rattle.ia_insn.specs.declared.choices.AluFn.TheVariants as alu_fn
 use Rattle.ia_insn.specs.declared.choices.ShiftFn.{ShiftFn}
@@ -93,11 +93,11 @@ extend signed size a = if signed then extended (8 * size) (a % 2 ^ (8 * size)) e
 abbrev pub related : ℕ → Rel → ℕ → ℕ → Bool
 related width Eq a b = a == b
 related width Ne a b = not (a == b)
-related width Lt a b = int_lt (signed_of width a) (signed_of width b)
+related width Lt a b = int_lt (signed_value width a) (signed_value width b)
 related width Ltu a b = nat_lt a b
-related width Gt a b = int_lt (signed_of width b) (signed_of width a)
-related width Ge a b = int_le (signed_of width b) (signed_of width a)
-related width Le a b = int_le (signed_of width a) (signed_of width b)
+related width Gt a b = int_lt (signed_value width b) (signed_value width a)
+related width Ge a b = int_le (signed_value width b) (signed_value width a)
+related width Le a b = int_le (signed_value width a) (signed_value width b)
 
 -- `cmp`, and `cmp4`, which looks at the low 32 bits
 abbrev pub compared : Bool → Rel → ℕ → ℕ → Bool

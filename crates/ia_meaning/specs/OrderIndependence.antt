@@ -8,5 +8,5 @@ use Rattle.ia_meaning.specs.ParallelGroups.{par_run}
 
 -- From every start state, for every number of groups and every order of the writes in each, groups all at once leave what
 -- slots one by one leave: the state, the end of the run, the groups as events and the frame changes.
-abbrev pub IsRobust : Program → Type 0
-IsRobust p = (n : ℕ) (codes : List (List ℕ)) (s : State) → IsStart p s → par_run p n codes s ≡ seq_run p n s
+abbrev pub IsOrderIndependent : Program → Type 0
+IsOrderIndependent p = (n : ℕ) (codes : List (List ℕ)) (s : State) → IsStart p s → par_run p n codes s ≡ seq_run p n s

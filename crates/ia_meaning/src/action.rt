@@ -19,7 +19,7 @@ pub enum FetchSource {
     Branch(Br),
     /// An application register.
     Application(Ar),
-    /// The predicates, as a word by place.
+    /// The predicates as a word, by their indexes without rotation.
     Predicates,
     /// The address of the bundle.
     Ip,

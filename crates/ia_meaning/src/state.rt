@@ -48,7 +48,7 @@ pub struct Rse {
     pub filled: u64,
 }
 
-/// The place of a general register, which is the key of its entry in the ALAT.
+/// What holds a general register, which is the key of its entry in the ALAT.
 #[derive(Clone, Copy, Debug, PartialEq, Eq)]
 pub enum Spot {
     /// A static register, by its number, 0 to 31.

@@ -11,7 +11,7 @@ pub enum FrameCause {
     Renamed,
 }
 
-/// A write of a register, by the place that holds it, whatever its name is in a frame (volume 1, chapter 3,
+/// A write of a register, by what holds it, whatever its name is in a frame (volume 1, chapter 3,
 /// instruction sequencing).
 #[derive(Clone, Copy)]
 pub enum Write {
@@ -19,7 +19,7 @@ pub enum Write {
     SetStatic(u8, Cell),
     /// A cell of the register stack, by its number.
     SetCell(u32, Cell),
-    /// A predicate, by its place.
+    /// A predicate, by its index without rotation.
     SetPredicate(u8, bool),
     /// A branch register, by its number.
     SetBranch(u8, u64),

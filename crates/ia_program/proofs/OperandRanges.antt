@@ -24,7 +24,7 @@ use Rattle.formats_b.specs.RowIndexesF.{row_index_of as row_index_f}
 use Rattle.formats_b.proofs.WordsF.{row_f}
 use Rattle.formats_b.specs.ListedX.{rows as rows_x}
 use Rattle.formats_b.specs.RowIndexesX.{row_index_of as row_index_x}
-use Rattle.formats_b.specs.PartsX.{slot_op, IsWithin}
+use Rattle.formats_b.specs.PartsX.{slot_op, HasNumberInRange}
 use Rattle.formats_b.proofs.WordsX.{row_of_x}
 use Rattle.ia_program.specs.Listed.{IsListed}
 
@@ -48,7 +48,7 @@ ranges_f : (qp : ℕ) (x : Op) → AsRow rows_f (row_index_f (opcode_of x)) (rec
 unfolding rows_f listed
 ranges_f qp x h = grind arith
 
-ranges_x : (qp : ℕ) (x : Op) → AsRow rows_x (row_index_x (opcode_of (slot_op x))) (record { qp = qp; op = slot_op x }) → IsWithin x
+ranges_x : (qp : ℕ) (x : Op) → AsRow rows_x (row_index_x (opcode_of (slot_op x))) (record { qp = qp; op = slot_op x }) → HasNumberInRange x
     → HasRanges x × MayQualify qp x
 unfolding rows_x listed
 ranges_x qp x h within = grind arith

@@ -7,7 +7,7 @@ ghost use Rattle.image_form.specs.Parts.{number_at, numbers};
 use byteorder::{ByteOrder, LittleEndian};
 use std::alloc::{AllocError, Global};
 
-/// The number in the four bytes from a place on.
+/// The number in the four bytes from this position on.
 pub(crate) fn number_at(bytes: &[u8], at: usize) -> u32
     requires { at + 4 ≤ length bytes.now }
     ensures { result ≡ number_at bytes.now at }

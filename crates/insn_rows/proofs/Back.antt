@@ -17,7 +17,7 @@ use Rattle.insn_rows.specs.Codings.{Takes}
 use Rattle.insn_rows.specs.Rows.{operand_width, AllTake}
 use Rattle.insn_rows.specs.WellMade.{is_of_kind, are_of_kind}
 use Rattle.insn_rows.specs.Arms.{opcode_of, operands_of, values_of}
-use Rattle.insn_rows.specs.ArmsBack.{insn_of, op_of, gr_of, pr_of, br_of, flag_of, small_of, wide_of, mask_of, signed_of, short_of, displacement_of}
+use Rattle.insn_rows.specs.ArmsBack.{insn_of, op_of, gr_of, pr_of, br_of, flag_of, small_of, wide_of, mask_of, signed_value, short_of, displacement_of}
 
 -- An arm and the arm back.
 pub arms : (qp : ℕ) (x : Op) → insn_of (opcode_of x) (at (operands_of qp x)) ≡ record { qp = qp; op = x }
@@ -44,7 +44,7 @@ of_kind (v.Flag b) x = v.Flag (flag_of x)
 of_kind (v.Small n) x = v.Small (small_of x)
 of_kind (v.Wide n) x = v.Wide (wide_of x)
 of_kind (v.Mask n) x = v.Mask (mask_of x)
-of_kind (v.Signed z) x = v.Signed (signed_of x)
+of_kind (v.Signed z) x = v.Signed (signed_value x)
 of_kind (v.Short z) x = v.Short (short_of x)
 of_kind (v.Displacement z) x = v.Displacement (displacement_of x)
 

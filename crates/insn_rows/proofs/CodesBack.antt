@@ -4,7 +4,7 @@ use Rattle.std.specs.Prelude.{ℤ, pos, negsuc, neg_ℤ}
 use Rattle.std.proofs.lemmas.Bool.{leb-true}
 use Rattle.std.proofs.lemmas.Nat.{pow_pos}
 use Rattle.bundle_bits.proofs.Words.{both-left}
-use Rattle.ia_insn.specs.Signed.{twos, signed_of, flag, FitsSigned}
+use Rattle.ia_insn.specs.Signed.{twos, signed_value, flag, FitsSigned}
 use Rattle.ia_insn.specs.Sizes.{code_of_size, size_of_code}
 use Rattle.ia_insn.proofs.Numbers.{signed-twos, twos-fits, flag-back}
 use Rattle.insn_rows.specs.declared.row.Coding.{Coding}
@@ -77,10 +77,10 @@ code_fits c.Displacement w (v.Displacement z) t s = twos-fits w (leb-true _ _ (b
 code_fits coding w x t s = absurd t
 
 rotating_back : (w : ℕ) (z : ℤ) → FitsSigned (w + 16) z → twos (w + 16) z % 2 ^ 16 ≡ 0
-    → signed_of (w + 16) (twos (w + 16) z / 2 ^ 16 * 2 ^ 16) ≡ z
+    → signed_value (w + 16) (twos (w + 16) z / 2 ^ 16 * 2 ^ 16) ≡ z
 rotating_back w z fit low =
     let e : twos (w + 16) z / 2 ^ 16 * 2 ^ 16 ≡ twos (w + 16) z = omega arith in
-    ap (signed_of (w + 16)) e ∙ signed-twos (w + 16) (omega arith) z fit
+    ap (signed_value (w + 16)) e ∙ signed-twos (w + 16) (omega arith) z fit
 
 -- A value's code is read back as this value.
 pub value_back : (coding : Coding) (w : ℕ) (x : Value) → Takes coding w x → suits coding w ≡ true → value coding w (code coding w x) ≡ x
@@ -148,7 +148,7 @@ code_back c.Wide w n t s fit = refl
 code_back c.PredicateMask w n t s fit = omega arith
 code_back c.Signed w n t s fit = twos-signed w n (leb-true _ _ (both-left _ _ s)) fit
 code_back c.RotatingMask w n t s fit =
-    let e : twos (w + 16) (signed_of (w + 16) (n * 2 ^ 16)) ≡ n * 2 ^ 16 =
+    let e : twos (w + 16) (signed_value (w + 16) (n * 2 ^ 16)) ≡ n * 2 ^ 16 =
     twos-signed (w + 16) (n * 2 ^ 16) (omega arith) (shifted_below n w fit) in
     ap (λ k. k / 2 ^ 16) e ∙ (omega arith)
 code_back c.Short w n t s fit = twos-signed w n (leb-true _ _ (both-left _ _ s)) fit

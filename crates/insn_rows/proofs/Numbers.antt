@@ -4,7 +4,7 @@ use Rattle.std.proofs.lemmas.Nat.{mod_below, pow_pos, shr_split, one_shl}
 use Rattle.std.proofs.Math.Nat.{div-eq_of_lt, pow-le-pow_right, pow-suc}
 use Rattle.std.proofs.lemmas.Bool.{leb-true, ltb-true, ltb-false, eqb-true}
 use Rattle.std.specs.Prelude.{ℤ, pos, negsuc}
-use Rattle.ia_insn.specs.Signed.{twos, signed_of, FitsSigned}
+use Rattle.ia_insn.specs.Signed.{twos, signed_value, FitsSigned}
 use Rattle.ia_insn.proofs.Numbers.{half}
 use Rattle.std.specs.Prelude.{◌&&◌}
 use Rattle.bundle_bits.proofs.Words.{both-right}
@@ -74,7 +74,7 @@ raised_in_64 n w s fit =
     omega arith
 
 -- A signed number by its two's complement.
-pub signed_fits : (w n : ℕ) → 1 ≤ w → n < 2 ^ w → FitsSigned w (signed_of w n)
+pub signed_fits : (w n : ℕ) → 1 ≤ w → n < 2 ^ w → FitsSigned w (signed_value w n)
 signed_fits w n s h =
     elim (ltb n (2 ^ (w - 1))) as (λ b. ltb n (2 ^ (w - 1)) ≡ b → FitsSigned w (cond b (pos n) (negsuc (2 ^ w - suc n)))) [
       | true ↦ λ e. ltb-true _ _ e
@@ -86,20 +86,20 @@ pub wider : (w k : ℕ) (z : ℤ) → w ≤ k → FitsSigned w z → FitsSigned 
 wider w k (pos n) h fit = fewer n (w - 1) (k - 1) (omega arith) fit
 wider w k (negsuc n) h fit = fewer n (w - 1) (k - 1) (omega arith) fit
 
-pub twos-signed : (w n : ℕ) → 1 ≤ w → n < 2 ^ w → twos w (signed_of w n) ≡ n
+pub twos-signed : (w n : ℕ) → 1 ≤ w → n < 2 ^ w → twos w (signed_value w n) ≡ n
 twos-signed w n s h = elim (ltb n (2 ^ (w - 1))) as (λ b. twos w (cond b (pos n) (negsuc (2 ^ w - suc n))) ≡ n) [
   | true ↦ refl
   | false ↦ omega arith
 ]
 
 -- Of which the low 16 bits are zeros.
-pub raised_zeros : (w n : ℕ) → n < 2 ^ w → twos (w + 16) (signed_of (w + 16) (n * 2 ^ 16)) % 2 ^ 16 ≡ 0
+pub raised_zeros : (w n : ℕ) → n < 2 ^ w → twos (w + 16) (signed_value (w + 16) (n * 2 ^ 16)) % 2 ^ 16 ≡ 0
 raised_zeros w n h =
-    let a : twos (w + 16) (signed_of (w + 16) (n * 2 ^ 16)) ≡ n * 2 ^ 16 =
+    let a : twos (w + 16) (signed_value (w + 16) (n * 2 ^ 16)) ≡ n * 2 ^ 16 =
     twos-signed (w + 16) (n * 2 ^ 16) (omega arith) (shifted_below n w h) in
     omega arith
 
-pub raised_fits : (w n : ℕ) → n < 2 ^ w → FitsSigned (w + 16) (signed_of (w + 16) (n * 2 ^ 16))
+pub raised_fits : (w n : ℕ) → n < 2 ^ w → FitsSigned (w + 16) (signed_value (w + 16) (n * 2 ^ 16))
 raised_fits w n h = signed_fits (w + 16) (n * 2 ^ 16) (omega arith) (shifted_below n w h)
 
 pub raised_whole : (n w : ℕ) → w ≤ 41 → n < 2 ^ w → n * 65536 % 18446744073709551616 ≡ n * 2 ^ 16

@@ -42,9 +42,9 @@ abbrev pub mask_of : Value → ℕ
 mask_of (v.Mask n) = n
 mask_of x = 0
 
-abbrev pub signed_of : Value → ℤ
-signed_of (v.Signed n) = n
-signed_of x = pos 0
+abbrev pub signed_value : Value → ℤ
+signed_value (v.Signed n) = n
+signed_value x = pos 0
 
 abbrev pub short_of : Value → ℤ
 short_of (v.Short n) = n
@@ -62,19 +62,19 @@ update_of kinds.Imm x = updates.Imm (short_of x)
 abbrev pub op_of : Opcode → (ℕ → Value) → Op
 op_of (o.Alu f) x = op.Alu f (gr_of (x 1)) (gr_of (x 2)) (gr_of (x 3))
 op_of o.ShlAdd x = op.ShlAdd (flag_of (x 1)) (gr_of (x 2)) (gr_of (x 3)) (small_of (x 4)) (gr_of (x 5))
-op_of (o.AluImm8 f) x = op.AluImm8 f (gr_of (x 1)) (signed_of (x 2)) (gr_of (x 3))
-op_of o.AddImm14 x = op.AddImm14 (flag_of (x 1)) (gr_of (x 2)) (signed_of (x 3)) (gr_of (x 4))
-op_of o.AddImm22 x = op.AddImm22 (gr_of (x 1)) (signed_of (x 2)) (gr_of (x 3))
+op_of (o.AluImm8 f) x = op.AluImm8 f (gr_of (x 1)) (signed_value (x 2)) (gr_of (x 3))
+op_of o.AddImm14 x = op.AddImm14 (flag_of (x 1)) (gr_of (x 2)) (signed_value (x 3)) (gr_of (x 4))
+op_of o.AddImm22 x = op.AddImm22 (gr_of (x 1)) (signed_value (x 2)) (gr_of (x 3))
 op_of (o.Cmp rel kind) x = op.Cmp (flag_of (x 1)) rel kind (pr_of (x 2)) (pr_of (x 3)) (gr_of (x 4)) (gr_of (x 5))
 op_of (o.CmpZero rel kind) x = op.CmpZero (flag_of (x 1)) rel kind (pr_of (x 2)) (pr_of (x 3)) (gr_of (x 4))
-op_of (o.CmpImm rel kind) x = op.CmpImm (flag_of (x 1)) rel kind (pr_of (x 2)) (pr_of (x 3)) (signed_of (x 4)) (gr_of (x 5))
+op_of (o.CmpImm rel kind) x = op.CmpImm (flag_of (x 1)) rel kind (pr_of (x 2)) (pr_of (x 3)) (signed_value (x 4)) (gr_of (x 5))
 op_of (o.Lane f) x = op.Lane f (small_of (x 1)) (gr_of (x 2)) (gr_of (x 3)) (gr_of (x 4))
 op_of (o.ShiftVar f) x = op.ShiftVar f (gr_of (x 1)) (gr_of (x 2)) (gr_of (x 3))
 op_of o.Popcnt x = op.Popcnt (gr_of (x 1)) (gr_of (x 2))
 op_of o.Shrp x = op.Shrp (gr_of (x 1)) (gr_of (x 2)) (gr_of (x 3)) (small_of (x 4))
 op_of o.Extr x = op.Extr (flag_of (x 1)) (gr_of (x 2)) (gr_of (x 3)) (small_of (x 4)) (small_of (x 5))
 op_of o.DepZ x = op.DepZ (gr_of (x 1)) (gr_of (x 2)) (small_of (x 3)) (small_of (x 4))
-op_of o.DepZImm x = op.DepZImm (gr_of (x 1)) (signed_of (x 2)) (small_of (x 3)) (small_of (x 4))
+op_of o.DepZImm x = op.DepZImm (gr_of (x 1)) (signed_value (x 2)) (small_of (x 3)) (small_of (x 4))
 op_of o.DepImm x = op.DepImm (gr_of (x 1)) (flag_of (x 2)) (gr_of (x 3)) (small_of (x 4)) (small_of (x 5))
 op_of o.Dep x = op.Dep (gr_of (x 1)) (gr_of (x 2)) (gr_of (x 3)) (small_of (x 4)) (small_of (x 5))
 op_of o.Tbit x = op.Tbit (flag_of (x 1)) (pr_of (x 2)) (pr_of (x 3)) (gr_of (x 4)) (small_of (x 5))
@@ -83,11 +83,11 @@ op_of (o.ChkS unit) x = op.ChkS unit (gr_of (x 1)) (displacement_of (x 2))
 op_of o.MovToBr x = op.MovToBr (br_of (x 1)) (gr_of (x 2)) (flag_of (x 3)) (flag_of (x 4)) (small_of (x 5)) (short_of (x 6))
 op_of o.MovFromBr x = op.MovFromBr (gr_of (x 1)) (br_of (x 2))
 op_of o.MovToPr x = op.MovToPr (gr_of (x 1)) (mask_of (x 2))
-op_of o.MovToPrRot x = op.MovToPrRot (signed_of (x 1))
+op_of o.MovToPrRot x = op.MovToPrRot (signed_value (x 1))
 op_of o.MovFromIp x = op.MovFromIp (gr_of (x 1))
 op_of o.MovFromPr x = op.MovFromPr (gr_of (x 1))
 op_of (o.MovToAr ar) x = op.MovToAr ar (gr_of (x 1))
-op_of (o.MovToArImm ar) x = op.MovToArImm ar (signed_of (x 1))
+op_of (o.MovToArImm ar) x = op.MovToArImm ar (signed_value (x 1))
 op_of (o.MovFromAr ar) x = op.MovFromAr (gr_of (x 1)) ar
 op_of o.Ext x = op.Ext (flag_of (x 1)) (small_of (x 2)) (gr_of (x 3)) (gr_of (x 4))
 op_of (o.Load kind u) x = op.Load (small_of (x 1)) kind (small_of (x 2)) (gr_of (x 3)) (gr_of (x 4)) (update_of u (x 5))

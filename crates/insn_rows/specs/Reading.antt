@@ -1,7 +1,7 @@
 -- What is read of a word by the operands of a row.
 use Rattle.std.specs.Prelude.{ℕ, ℤ, pos, neg_ℤ, nat_lt, ◌+◌, ◌-◌, ◌*◌, ◌%◌, ◌^◌, ◌==◌, if◌then◌else◌, Bool, List, [], ◌∷◌, bit_and}
 use Rattle.bundle_bits.specs.Words.{bits}
-use Rattle.ia_insn.specs.Signed.{signed_of}
+use Rattle.ia_insn.specs.Signed.{signed_value}
 use Rattle.ia_insn.specs.Sizes.{size_of_code}
 use Rattle.insn_rows.specs.declared.bits.BitField.{BitField}
 use Rattle.insn_rows.specs.declared.row.Coding.{Coding}
@@ -41,10 +41,10 @@ value (c.Size least most) width n = v.Small (size_of_code n)
 value c.Increment width n = v.Short (increment_of_code n)
 value c.Wide width n = v.Wide n
 value c.PredicateMask width n = v.Mask (2 * n)
-value c.Signed width n = v.Signed (signed_of width n)
-value c.RotatingMask width n = v.Signed (signed_of (width + 16) (n * 2 ^ 16))
-value c.Short width n = v.Short (signed_of width n)
-value c.Displacement width n = v.Displacement (signed_of width n)
+value c.Signed width n = v.Signed (signed_value width n)
+value c.RotatingMask width n = v.Signed (signed_value (width + 16) (n * 2 ^ 16))
+value c.Short width n = v.Short (signed_value width n)
+value c.Displacement width n = v.Displacement (signed_value width n)
 value coding width n = v.Small n
 
 -- The values whose codes a word has in the bits of the operands.

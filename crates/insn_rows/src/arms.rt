@@ -2,7 +2,7 @@
 
 ghost use Rattle.std.specs.Prelude.{◌≡◌};
 ghost use Rattle.insn_rows.specs.Arms.{update_kind, added, opcode_of, values_of};
-ghost use Rattle.insn_rows.specs.ArmsBack.{update_of, insn_of, gr_of, pr_of, br_of, flag_of, small_of, wide_of, mask_of, signed_of, short_of, displacement_of};
+ghost use Rattle.insn_rows.specs.ArmsBack.{update_of, insn_of, gr_of, pr_of, br_of, flag_of, small_of, wide_of, mask_of, signed_value, short_of, displacement_of};
 ghost use Rattle.insn_rows.specs.Values.{at};
 
 use crate::opcode::{Opcode, UpdateKind};
@@ -247,7 +247,7 @@ fn mask(values: &Values, index: usize) -> u32
 
 /// The signed number at an index.
 fn signed(values: &Values, index: usize) -> i64
-    ensures { result ≡ signed_of (at values.now index) }
+    ensures { result ≡ signed_value (at values.now index) }
 {
     match value_at(values, index) {
         Value::Signed(x) => x,

@@ -1,7 +1,7 @@
 //! The codes of values, and the values of codes.
 
 ghost use Rattle.std.specs.Prelude.{◌≡◌, ◌≢◌, ℕ, ◌+◌, ◌*◌, ◌/◌, ◌%◌, ◌<◌, ◌≤◌, ◌^◌, ◌↔◌, IsTrue, IfSome, pos, neg_ℤ, unsigned_abs, if◌then◌else◌, nat_lt};
-ghost use Rattle.ia_insn.specs.Signed.{twos, signed_of, FitsSigned, flag};
+ghost use Rattle.ia_insn.specs.Signed.{twos, signed_value, FitsSigned, flag};
 ghost use Rattle.ia_insn.specs.Sizes.{code_of_size, size_of_code};
 ghost use Rattle.ia_insn.specs.Ranges.{IsAccessSize, IsIncrement};
 ghost use Rattle.insn_rows.specs.Codings.{Takes, code, is_negative, code_of_step};
@@ -68,7 +68,7 @@ fn signed_within(number: u64, width: u32) -> i64
     requires some { 1 ≤ width }
     requires within { width ≤ 62 }
     requires bits { number < 2 ^ width }
-    ensures value { result ≡ signed_of width number }
+    ensures value { result ≡ signed_value width number }
     ensures fits { FitsSigned width result }
 {
     let half = power(width - 1);
@@ -85,7 +85,7 @@ fn short_within(number: u64, width: u32) -> i16
     requires some { 1 ≤ width }
     requires within { width ≤ 16 }
     requires bits { number < 2 ^ width }
-    ensures { result ≡ signed_of width number }
+    ensures { result ≡ signed_value width number }
 {
     signed_within(number, width) as i16
 }
@@ -96,7 +96,7 @@ fn displacement_within(number: u64, width: u32) -> i32
     requires some { 1 ≤ width }
     requires within { width ≤ 32 }
     requires bits { number < 2 ^ width }
-    ensures { result ≡ signed_of width number }
+    ensures { result ≡ signed_value width number }
 {
     signed_within(number, width) as i32
 }
@@ -106,7 +106,7 @@ fn displacement_within(number: u64, width: u32) -> i32
 fn signed_above(number: u64, width: u32) -> i64
     requires within { width ≤ 41 }
     requires fits { number < 2 ^ width }
-    ensures { result ≡ signed_of (width + 16) (number * 2 ^ 16) }
+    ensures { result ≡ signed_value (width + 16) (number * 2 ^ 16) }
 {
     signed_within(number << 16, width + 16)
 }

@@ -29,7 +29,7 @@ use Rattle.asm_reading.specs.declared.line.Line.TheVariants as line
 use Rattle.asm_reading.specs.declared.line.TemplateName.{TemplateName}
 use Rattle.ia_insn.specs.declared.insn.Op.{Op}
 use Rattle.asm_forms.specs.Items.{taken}
-use Rattle.asm_reading.specs.Lines.{KindAndText, ◌>>=◌, or_fault, tokens, texts, name_of, label_name, lead_at, ends_in_stop, without_stop, predicate_of, draft_of, completers_or_none, slot_under, slot_of, data_field, agreed_data, numbers_of, data_fault, data_of, named, directive_value, directive_of, alone, formed, among, marked, template_name_of, opened_as, opened, mark_led, led_by, led_at, led, is_name_lexeme, is_colon, label_of, value_of, reading_of, relation_of}
+use Rattle.asm_reading.specs.Lines.{KindAndText, ◌>>=◌, or_fault, tokens, texts, name_of, label_name, lead_at, ends_in_stop, without_stop, predicate_of, draft_of, completers_or_none, slot_under, slot_of, data_field, agreed_data, numbers_of, data_fault, data_of, named, directive_value, directive_of, alone, formed, line_by_forms, marked, template_name_of, opened_as, opened, mark_led, line_led_by, led_at, line_without_label, is_name_lexeme, is_colon, label_of, line_of, reading_of, relation_of}
 
 -- The predicates of a relation line.
 abbrev pub NamesRelated : Line → Type 0
@@ -119,7 +119,7 @@ formed_relates f forms name before after =
     either_relates (is_instruction f) (slot_of forms name before after) (alone before (directive_of forms after))
     (slot_relates forms name before after) (alone_relates before _ (directive_relates forms after))
 
-worded_relates : (forms : List Form) (name : List ℕ) (before after : List KindAndText) → Relates (among forms name before after)
+worded_relates : (forms : List Form) (name : List ℕ) (before after : List KindAndText) → Relates (line_by_forms forms name before after)
 worded_relates [] name before after = tt
 worded_relates (f ∷ fs) name before after = formed_relates f (f ∷ fs) name before after
 
@@ -142,7 +142,7 @@ mark_relates t.CloseBrace before after = marked_relates line.Close before after 
 mark_relates t.OpenBrace before after = opened_relates before after
 mark_relates _ before after = tt
 
-led_by_relates : (w : KindAndText) (before after : List KindAndText) → Relates (led_by w before after)
+led_by_relates : (w : KindAndText) (before after : List KindAndText) → Relates (line_led_by w before after)
 led_by_relates (kind.Name, text) before after = worded_relates (named_forms text) text before after
 led_by_relates (kind.Number, text) before after = tt
 led_by_relates (kind.Quoted, text) before after = tt
@@ -162,14 +162,14 @@ label_relates text [] =
     (named_relates (name_of text) (λ name. line.Label name) (λ name. tt))
 label_relates text (w ∷ ws) = tt
 
-value_relates : (ws : List KindAndText) → Relates (value_of ws)
+value_relates : (ws : List KindAndText) → Relates (line_of ws)
 value_relates [] = tt
 value_relates (w ∷ []) = led_at_relates (w ∷ []) (lead_at (tokens (w ∷ [])))
 value_relates (w ∷ x ∷ ws) =
-    by_test (is_name_lexeme w && is_colon (token_of x.0 x.1)) (label_of w.1 ws) (led (w ∷ x ∷ ws)) (λ e. label_relates w.1 ws)
+    by_test (is_name_lexeme w && is_colon (token_of x.0 x.1)) (label_of w.1 ws) (line_without_label (w ∷ x ∷ ws)) (λ e. label_relates w.1 ws)
     (led_at_relates (w ∷ x ∷ ws) (lead_at (tokens (w ∷ x ∷ ws))))
 
 pub line_relates : (bytes : List ℕ) (value : Line) → reading_of bytes ≡ Ok value → NamesRelated value
 line_relates bytes value is =
-    subst Relates is (by_test (has_only_plain bytes) (value_of (texts bytes (lexemes_from 0 0 bytes))) (Err fault.Char)
+    subst Relates is (by_test (has_only_plain bytes) (line_of (texts bytes (lexemes_from 0 0 bytes))) (Err fault.Char)
     (λ e. value_relates (texts bytes (lexemes_from 0 0 bytes))) tt)

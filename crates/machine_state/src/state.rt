@@ -112,7 +112,7 @@ impl MachineState {
         &self.alat
     }
 
-    /// The place of a stacked register; None outside the frame.
+    /// What holds a stacked register; None outside the frame.
     fn stacked_spot(&self, r: Gr) -> Option<Spot>
         requires { 32 ≤ r }
         ensures { result ≡ spot self.now.registers.frame r }
@@ -123,7 +123,7 @@ impl MachineState {
         }
     }
 
-    /// The place of a general register; None outside the frame.
+    /// What holds a general register; None outside the frame.
     #[inline(always)]
     #[tactic(auto, using(ia_meaning::proofs::Spots::spot_static))]
     pub fn spot(&self, r: Gr) -> Option<Spot>
@@ -170,7 +170,7 @@ impl MachineState {
         })
     }
 
-    /// The place of a predicate.
+    /// The index of a predicate without rotation.
     pub(crate) fn predicate_index(&self, p: Pr) -> usize
         ensures value { result ≡ predicate_index self.now.registers.frame p }
         ensures within { result < 64 }

@@ -79,8 +79,8 @@ with_p6_is_start = record {
 pub later_writes_differ : LaterWrites
 unfolding look spot holds predicate_index predicate_spot next_of insn_at is_stopped seq_step
 later_writes_differ = (
-  λ robust. of (ap (λ (r : Run). static_of 14 r.state.registers)
-      (robust 2 ([] ∷ (1 ∷ []) ∷ []) (with_p6 later_writes) with_p6_is_start)),
+  λ order_independent. of (ap (λ (r : Run). static_of 14 r.state.registers)
+      (order_independent 2 ([] ∷ (1 ∷ []) ∷ []) (with_p6 later_writes) with_p6_is_start)),
   refl,
   refl,
   refl,

@@ -12,8 +12,8 @@ use Rattle.order_laws.specs.Violations.{HasNoViolation}
 use Rattle.order_laws.specs.Traces.{walk_after, IsKnown}
 use Rattle.order_laws.proofs.Walked.{steps_known, known_on_runs, runs_are_known}
 use Rattle.ia_meaning.specs.ParallelGroups.{par_group, code_of}
-use Rattle.ia_meaning.specs.OrderIndependence.{IsRobust}
-use Rattle.order_laws.specs.OrderLaws.{GroupIsOrdered, NextGroupIsOrdered, FreeIsRobust}
+use Rattle.ia_meaning.specs.OrderIndependence.{IsOrderIndependent}
+use Rattle.order_laws.specs.OrderLaws.{GroupIsOrdered, NextGroupIsOrdered, FreeIsOrderIndependent}
 use Rattle.order_laws.proofs.FirstSlots.{whole}
 
 pub group_ordered : GroupIsOrdered
@@ -69,6 +69,6 @@ runs_ordered (suc n) number p codes s w program free known =
         let r = reached refl in
         ap (run_by (seq_group p s) (event_of number s.place (seq_group p s)) None) (again r.0 r.1)
 
-pub free_robust : FreeIsRobust
-free_robust p program free n codes s start =
+pub free_order_independent : FreeIsOrderIndependent
+free_order_independent p program free n codes s start =
     runs_ordered n 1 p codes s (begins s.place.bundle) program free (known_on_runs 0 p s program start)

@@ -21,7 +21,7 @@ use Rattle.ia_meaning.specs.Sequence.{first_of, is_stopped}
 use Rattle.ia_meaning.specs.Steps.{Step, outcome_of, how_falling, step_by, step_of, seq_step, Group, group_by, group_within, seq_group, event_of, Run, run_by, run_from}
 use Rattle.ia_meaning.proofs.WholeRuns.{step_goes_on}
 use Rattle.predicate_rel.specs.declared.edge.Edge.TheVariants.{Taken}
-use Rattle.predicate_rel.specs.Pairs.{Table, Pairs, pairs_of, IsWithin}
+use Rattle.predicate_rel.specs.Pairs.{FactRows, Pairs, pairs_of, IsSubset}
 use Rattle.predicate_rel.specs.Truth.{AreNeverBothOne}
 use Rattle.predicate_rel.specs.Edges.{displacement_of, target_at, edge_of, edge_end, HasEdge, pairs_past}
 use Rattle.flow_facts.specs.Walks.{Walk, begins, goes_on, end_of, facts_on, earlier_in_group, Known, known_at, NoWalk, IsMeet, IsSolution}
@@ -262,13 +262,13 @@ runs_are_known n p s program start =
     (t.walk, subst (λ x. IsKnown p x t.walk) k.1 (known_on_runs k.0 p s program start))
 
 -- What is true of a larger set is true of a smaller one.
-within_apart : (f g : Pairs) (r : Registers) → IsWithin f g → AreNeverBothOne g r → AreNeverBothOne f r
+within_apart : (f g : Pairs) (r : Registers) → IsSubset f g → AreNeverBothOne g r → AreNeverBothOne f r
 within_apart f g r w a = record { apart = λ x y m h k. a.apart x y (w.each x y m) h k }
 
 true_at : (p : Program) (table : List Known) (s : State) (w : Walk) → IsSolution p table → IsKnown p s w → IsTrueAt table s
 true_at p table s w solution known = of (known_at table s.place) refl (solution s.place)
   where
-    of : (o : Option Table) → known_at table s.place ≡ o → MatchOption o (NoWalk p s.place) (λ rows. IsMeet p s.place (pairs_of rows))
+    of : (o : Option FactRows) → known_at table s.place ≡ o → MatchOption o (NoWalk p s.place) (λ rows. IsMeet p s.place (pairs_of rows))
         → IsTrueAt table s
     of None e none = absurd (none w known.ends)
     of (Some rows) e meet =

@@ -28,7 +28,7 @@ use Rattle.ia_meaning.specs.Frames.{marked_frame}
 use Rattle.ia_meaning.specs.Outcomes.{Outcome}
 use Rattle.ia_meaning.specs.Steps.{seq_group, seq_run}
 use Rattle.ia_meaning.specs.ParallelGroups.{outcome_from, par_group, par_run}
-use Rattle.ia_meaning.specs.OrderIndependence.{IsRobust}
+use Rattle.ia_meaning.specs.OrderIndependence.{IsOrderIndependent}
 
 abbrev pub plain : Op → Insn
 plain o = record { qp = 0; op = o }
@@ -286,7 +286,7 @@ with_p6 p = record (zero_state p) {
 -- the zero state both leave 0.
 abbrev pub LaterWrites : Type 0
 LaterWrites =
-    (¬ IsRobust later_writes)
+    (¬ IsOrderIndependent later_writes)
     × (static_of 14 (seq_run later_writes 2 (with_p6 later_writes)).state.registers ≡ cell 2)
     × (static_of 14 (par_run later_writes 2 ([] ∷ []) (with_p6 later_writes)).state.registers ≡ cell 2)
     × (static_of 14 (par_run later_writes 2 ([] ∷ (1 ∷ []) ∷ []) (with_p6 later_writes)).state.registers ≡ cell 1)

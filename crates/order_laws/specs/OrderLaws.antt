@@ -10,7 +10,7 @@ use Rattle.ia_meaning.specs.Writes.{apply, frame_changes}
 use Rattle.ia_meaning.specs.Steps.{seq_group, seq_run}
 use Rattle.ia_meaning.specs.WriteOrders.{arranged}
 use Rattle.ia_meaning.specs.ParallelGroups.{par_group}
-use Rattle.ia_meaning.specs.OrderIndependence.{IsRobust}
+use Rattle.ia_meaning.specs.OrderIndependence.{IsOrderIndependent}
 use Rattle.resource_sets.specs.AccessLaws.{TheFrame, location}
 use Rattle.flow_facts.specs.Walks.{Walk}
 use Rattle.order_laws.specs.Violations.{HasNoViolation}
@@ -59,5 +59,5 @@ NextGroupIsOrdered =
     → par_group p code (seq_run p n s).state ≡ seq_group p (seq_run p n s).state
 
 -- A program without a violation is order independent.
-abbrev pub FreeIsRobust : Type 0
-FreeIsRobust = (p : Program) → IsProgram p → HasNoViolation p → IsRobust p
+abbrev pub FreeIsOrderIndependent : Type 0
+FreeIsOrderIndependent = (p : Program) → IsProgram p → HasNoViolation p → IsOrderIndependent p

@@ -10,7 +10,7 @@ use Rattle.ia_program.specs.Programs.{Program, IsProgram}
 use Rattle.ia_meaning.specs.State.{State, IsState, IsStart}
 use Rattle.ia_meaning.specs.Actions.{insn_action, is_indirect}
 use Rattle.ia_meaning.specs.Steps.{Step, seq_step, seq_run}
-use Rattle.predicate_rel.specs.Pairs.{Table, pairs_of}
+use Rattle.predicate_rel.specs.Pairs.{FactRows, pairs_of}
 use Rattle.predicate_rel.specs.Truth.{AreNeverBothOne}
 use Rattle.flow_facts.specs.Walks.{Walk, begins, goes_on, EndsAt, facts_on, earlier_in_group, Known, known_at, IsSolution}
 use Rattle.predicate_rel.specs.Steps.{edge_by}
@@ -104,7 +104,7 @@ RunsAreKnown = (n : ℕ) (p : Program) (s : State) → IsProgram p → IsStart p
 
 -- What is known at each place on all walks to it is true whenever a run comes there.
 pub record IsTrueAt (table : List Known) (s : State) : Type 0 where
-  pub rows : Table
+  pub rows : FactRows
   pub known : known_at table s.place ≡ Some rows
   pub apart : AreNeverBothOne (pairs_of rows) s.registers
 

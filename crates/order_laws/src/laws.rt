@@ -3,7 +3,7 @@
 
 ghost use Rattle.order_laws.specs.Traces.{KnownOnRuns, StepsKnown, WalksGroup, RunIsTraced, RunsKeepState, RunsAreKnown, SolutionIsTrue};
 ghost use Rattle.order_laws.specs.Agreement.{ViewsAgree, OthersSeeTheStart, AllSeeTheStart};
-ghost use Rattle.order_laws.specs.OrderLaws.{OrdersLeaveTheSame, OrdersChangeFramesTheSame, GroupIsOrdered, NextGroupIsOrdered, FreeIsRobust};
+ghost use Rattle.order_laws.specs.OrderLaws.{OrdersLeaveTheSame, OrdersChangeFramesTheSame, GroupIsOrdered, NextGroupIsOrdered, FreeIsOrderIndependent};
 ghost use Rattle.order_laws.specs.GroupSlots.{SlotsLead};
 ghost use Rattle.order_laws.specs.Targets.{TargetsStand, NextTargetsStand};
 ghost use Rattle.order_laws.specs.FetchAdds.{FetchAddsFindSums, FetchAddsAreSummed, FetchAddTargetsStand, TwoFetchAdds};
@@ -41,7 +41,7 @@ pub fn orders_leave_the_same()
     ensures frames { OrdersChangeFramesTheSame }
     ensures group { GroupIsOrdered }
     ensures next { NextGroupIsOrdered }
-    ensures run { FreeIsRobust }
+    ensures run { FreeIsOrderIndependent }
 {}
 
 /// The slots of a group, one after the other, lead to what is gathered of it.

@@ -1,7 +1,7 @@
 -- A set that an instruction changes row by row.
 use Rattle.std.proofs.Common.{◌≡◌, ℕ, ◌<◌, Bool, true, false, cond, ◌&&◌, not, eqb, eq-eqb, length, set, get_or-set_same, get_or-set_other, refl, sym, ap, ◌∙◌, subst, inl, inr, ◌⊎◌}
 use Rattle.std.proofs.lemmas.Bool.{cases_eq, ne_eqb, and_left}
-use Rattle.predicate_rel.specs.Pairs.{Table, Pairs, has_bit, in_range, truth, pairs_of}
+use Rattle.predicate_rel.specs.Pairs.{FactRows, Pairs, has_bit, in_range, truth, pairs_of}
 use Rattle.predicate_rel.specs.Rules.{PairRule, is_met, pairs_by}
 use Rattle.predicate_rel.specs.Rows.{IsRow}
 use Rattle.predicate_rel.proofs.PairLemmas.{shows, in_range_from, pairs_of_in}
@@ -31,14 +31,14 @@ changed_row rules before now now' is_left is_left' k row h less is_row put x y l
     by_case (inr n) = put x y l m ∙ (rw (less x l, ne_eqb x k n) (h x y l m))
 
 -- All of them.
-pub changed_wholly : (rules : ℕ → ℕ → PairRule) (before : Pairs) (now : Table) (is_left : ℕ → Bool) → ((x : ℕ) → x < 64 → is_left x ≡ false)
+pub changed_wholly : (rules : ℕ → ℕ → PairRule) (before : Pairs) (now : FactRows) (is_left : ℕ → Bool) → ((x : ℕ) → x < 64 → is_left x ≡ false)
     → AreChanged rules before is_left (pairs_of now) → pairs_of now ≡ pairs_by before rules
 changed_wholly rules before now is_left none h = shows now (pairs_by before rules)
     (λ x y l m. sym (pairs_of_in now x y l m) ∙ h x y l m ∙ (rw (none x l, in_range_from x y l m) refl))
     (λ x y n. and_left (in_range x y) _ n)
 
 -- The pairs where a row is set.
-pub row_set : (rows : Table) (k row : ℕ) → length rows ≡ 64 → k < 64 → (x y : ℕ) → x < 64 → y < 64
+pub row_set : (rows : FactRows) (k row : ℕ) → length rows ≡ 64 → k < 64 → (x y : ℕ) → x < 64 → y < 64
     → pairs_of (set rows k row) x y ≡ cond (eqb x k) (has_bit row y) (pairs_of rows x y)
 row_set rows k row sized below x y l m = pairs_of_in (set rows k row) x y l m ∙ by_case (cases_eq x k)
   where

@@ -2,7 +2,7 @@
 use Rattle.std.proofs.Common.{◌≡◌, ◌≢◌, ℕ, ◌<◌, Bool, true, false, cond, ◌&&◌, ◌||◌, not, eqb, eq-eqb, length, set, get_or-set_same, get_or-set_other, refl, sym, ap, ◌∙◌, subst, inl, inr, ◌⊎◌}
 use mathlib.Core.Path.{fun_ext}
 use Rattle.std.proofs.lemmas.Bool.{cases_Bool, cases_eq, ne_eqb, and_parts, and_left, true≢false}
-use Rattle.predicate_rel.specs.Pairs.{Table, Pairs, has_bit, in_range, truth, pairs_of, common, IsWithin, HasMore}
+use Rattle.predicate_rel.specs.Pairs.{FactRows, Pairs, has_bit, in_range, truth, pairs_of, common, IsSubset, HasMore}
 use Rattle.predicate_rel.specs.Changes.{AgreeOutside, Narrows}
 use Rattle.predicate_rel.specs.Rules.{PairRule, one, pairs_by}
 use Rattle.predicate_rel.specs.Rows.{IsRow}
@@ -77,7 +77,7 @@ narrowed_wholly old past now is_in is_left none h = record {
 }
 
 -- Then the set has what both have: where the rows are all, and where the others of the set are within the other.
-narrowed_common : (old new : Table) (past : Pairs) (is_in : ℕ → Bool) → IsWholly (pairs_of old) past is_in (pairs_of new)
+narrowed_common : (old new : FactRows) (past : Pairs) (is_in : ℕ → Bool) → IsWholly (pairs_of old) past is_in (pairs_of new)
     → ((x y : ℕ) → x < 64 → y < 64 → is_in x ≡ false → pairs_of old x y ≡ (pairs_of old x y && past x y))
     → pairs_of new ≡ common (pairs_of old) past
 unfolding common
@@ -89,12 +89,12 @@ narrowed_common old new past is_in h others =
     by_case x y l m (inl t) = h.done x y l m t refl
     by_case x y l m (inr n) = h.outside x y l n ∙ others x y l m n
 
-pub narrowed_whole : (old new : Table) (past : Pairs) (is_in : ℕ → Bool) → IsWholly (pairs_of old) past is_in (pairs_of new)
+pub narrowed_whole : (old new : FactRows) (past : Pairs) (is_in : ℕ → Bool) → IsWholly (pairs_of old) past is_in (pairs_of new)
     → ((x : ℕ) → x < 64 → is_in x ≡ true) → pairs_of new ≡ common (pairs_of old) past
 narrowed_whole old new past is_in h all = narrowed_common old new past is_in h (λ x y l m n. absurd (true≢false (sym (all x l) ∙ n)))
 
-pub narrowed_more : (old new : Table) (past earlier : Pairs) (rows : ℕ) → IsWholly (pairs_of old) past (has_bit rows) (pairs_of new)
-    → AgreeOutside rows earlier past → IsWithin (pairs_of old) earlier → pairs_of new ≡ common (pairs_of old) past
+pub narrowed_more : (old new : FactRows) (past earlier : Pairs) (rows : ℕ) → IsWholly (pairs_of old) past (has_bit rows) (pairs_of new)
+    → AgreeOutside rows earlier past → IsSubset (pairs_of old) earlier → pairs_of new ≡ common (pairs_of old) past
 narrowed_more old new past earlier rows h agree within =
     narrowed_common old new past (has_bit rows) h (λ x y l m n. by_case x y n (cases_Bool (pairs_of old x y)))
   where
@@ -104,8 +104,8 @@ narrowed_more old new past earlier rows h agree within =
     by_case x y n (inr f) = f ∙ sym (and_left (pairs_of old x y) (past x y) f)
 
 -- A narrowed set has no more than it had, and all that both have.
-pub narrowed_no_more : (old new : Table) (past : Pairs) (is_in : ℕ → Bool) → IsWholly (pairs_of old) past is_in (pairs_of new)
-    → IsWithin (pairs_of new) (pairs_of old)
+pub narrowed_no_more : (old new : FactRows) (past : Pairs) (is_in : ℕ → Bool) → IsWholly (pairs_of old) past is_in (pairs_of new)
+    → IsSubset (pairs_of new) (pairs_of old)
 narrowed_no_more old new past is_in h = record { each = λ x y t. by_range x y t (cases_Bool (in_range x y)) }
   where
     by_range : (x y : ℕ) → pairs_of new x y ≡ true → (in_range x y ≡ true) ⊎ (in_range x y ≡ false) → pairs_of old x y ≡ true
@@ -113,8 +113,8 @@ narrowed_no_more old new past is_in h = record { each = λ x y t. by_range x y t
         let p = in_range_parts x y i in narrowed_within (pairs_of old) past (pairs_of new) is_in (λ x. false) x y h p.0 p.1 t
     by_range x y t (inr out) = absurd (true≢false (sym t ∙ pairs_of_out new x y out))
 
-pub narrowed_keeps : (old new : Table) (past : Pairs) (is_in : ℕ → Bool) → IsWholly (pairs_of old) past is_in (pairs_of new)
-    → IsWithin (common (pairs_of old) past) (pairs_of new)
+pub narrowed_keeps : (old new : FactRows) (past : Pairs) (is_in : ℕ → Bool) → IsWholly (pairs_of old) past is_in (pairs_of new)
+    → IsSubset (common (pairs_of old) past) (pairs_of new)
 unfolding common
 narrowed_keeps old new past is_in h = record { each = λ x y t. by_range x y t (cases_Bool (in_range x y)) (cases_Bool (is_in x)) }
   where
@@ -125,7 +125,7 @@ narrowed_keeps old new past is_in h = record { each = λ x y t. by_range x y t (
     by_range x y t (inl i) (inr n) = h.outside x y (in_range_parts x y i).0 n ∙ (and_parts (pairs_of old x y) (past x y) t).0
 
 -- The set as it is where its rows have lost what isn't in the other.
-pub narrowed_rows : (old new : Table) (past : Pairs) (is_in : ℕ → Bool) → IsWholly (pairs_of old) past is_in (pairs_of new) → (x y : ℕ)
+pub narrowed_rows : (old new : FactRows) (past : Pairs) (is_in : ℕ → Bool) → IsWholly (pairs_of old) past is_in (pairs_of new) → (x y : ℕ)
     → pairs_of new x y ≡ (pairs_of old x y && (not (is_in x) || past x y))
 narrowed_rows old new past is_in h x y = by_range (cases_Bool (in_range x y)) (cases_Bool (is_in x))
   where
@@ -146,7 +146,7 @@ wholly_from old new past rows h = record {
 
 -- A set that is narrowed in some rows by what rules leave of another is so as the contract of `narrow` says, where those rows
 -- are all in which the rules leave something else of a set that differs in the rows of the word.
-pub narrows_rows : (rules : ℕ → ℕ → PairRule) (changed reached : ℕ) (before : Pairs) (old new : Table) (lost : ℕ)
+pub narrows_rows : (rules : ℕ → ℕ → PairRule) (changed reached : ℕ) (before : Pairs) (old new : FactRows) (lost : ℕ)
     → IsWholly (pairs_of old) (pairs_by before rules) (has_bit reached) (pairs_of new)
     → ((x : ℕ) → x < 64 → has_bit changed x ≡ true → has_bit reached x ≡ true)
     → ((older : Pairs) → AgreeOutside changed older before → AgreeOutside reached (pairs_by older rules) (pairs_by before rules))
@@ -162,7 +162,7 @@ narrows_rows rules changed reached before old new lost h more agrees others some
 }
 
 -- A set that is narrowed in all rows is so as the contract of `narrow` says.
-pub narrows_all : (rules : ℕ → ℕ → PairRule) (changed : ℕ) (before : Pairs) (old new : Table) (lost : ℕ)
+pub narrows_all : (rules : ℕ → ℕ → PairRule) (changed : ℕ) (before : Pairs) (old new : FactRows) (lost : ℕ)
     → IsWholly (pairs_of old) (pairs_by before rules) (has_bit 18446744073709551615) (pairs_of new)
     → AgreeOutside lost (pairs_of old) (pairs_of new) → (lost ≢ 0 → HasMore (pairs_of old) (pairs_of new))
     → Narrows rules changed before (pairs_of old) (pairs_of new) lost
@@ -209,7 +209,7 @@ lost_row old now now' lost lost' k row h within marks narrowed m = record {
     of_others x y l n (inl e) = absurd (true≢false (rw (eq-eqb x k e) at n))
     of_others x y l n (inr ne) = narrowed x y ∙ (rw (ne_eqb x k ne) (and_true (now x y))) ∙ h.others x y l (rw (ne_eqb x k ne) at n)
 
-pub lost_agrees : (old new : Table) (lost : ℕ) → HasLost (pairs_of old) lost (pairs_of new)
+pub lost_agrees : (old new : FactRows) (lost : ℕ) → HasLost (pairs_of old) lost (pairs_of new)
     → AgreeOutside lost (pairs_of old) (pairs_of new)
 lost_agrees old new lost h = record { same = λ x y n. by_range x y n (cases_Bool (in_range x y)) }
   where
@@ -218,7 +218,7 @@ lost_agrees old new lost h = record { same = λ x y n. by_range x y n (cases_Boo
     by_range x y n (inr out) = pairs_of_out old x y out ∙ sym (pairs_of_out new x y out)
 
 -- One row of a table is written.
-pub row_same : (rows : Table) (k row : ℕ) → ((y : ℕ) → y < 64 → pairs_of rows k y ≡ true → has_bit row y ≡ true) → (x y : ℕ)
+pub row_same : (rows : FactRows) (k row : ℕ) → ((y : ℕ) → y < 64 → pairs_of rows k y ≡ true → has_bit row y ≡ true) → (x y : ℕ)
     → pairs_of rows x y ≡ (pairs_of rows x y && (not (eqb x k) || has_bit row y))
 row_same rows k row within x y = by_case (cases_eq x k) (cases_Bool (pairs_of rows x y))
   where
@@ -233,7 +233,7 @@ row_same rows k row within x y = by_case (cases_eq x k) (cases_Bool (pairs_of ro
         below y' (inl i) = (in_range_parts x y i).1
         below y' (inr out) = absurd (true≢false (sym t ∙ pairs_of_out rows x y out))
 
-pub row_written : (rows : Table) (k word row : ℕ) → length rows ≡ 64 → k < 64
+pub row_written : (rows : FactRows) (k word row : ℕ) → length rows ≡ 64 → k < 64
     → ((y : ℕ) → y < 64 → has_bit word y ≡ (pairs_of rows k y && has_bit row y)) → (x y : ℕ)
     → pairs_of (set rows k word) x y ≡ (pairs_of rows x y && (not (eqb x k) || has_bit row y))
 row_written rows k word row sized below bits x y = by_range (cases_Bool (in_range x y))
@@ -253,7 +253,7 @@ row_written rows k word row sized below bits x y = by_range (cases_Bool (in_rang
     by_range (inr out) = pairs_of_out (set rows k word) x y out ∙ sym (and_left (pairs_of rows x y) _ (pairs_of_out rows x y out))
 
 -- What the row had and the other one hasn't is lost.
-pub row_more : (rows : Table) (k word row y : ℕ) → length rows ≡ 64 → k < 64 → y < 64
+pub row_more : (rows : FactRows) (k word row y : ℕ) → length rows ≡ 64 → k < 64 → y < 64
     → ((y : ℕ) → y < 64 → has_bit word y ≡ (pairs_of rows k y && has_bit row y)) → pairs_of rows k y ≡ true → has_bit row y ≡ false
     → HasMore (pairs_of rows) (pairs_of (set rows k word))
 row_more rows k word row y sized below l bits there missing = record {

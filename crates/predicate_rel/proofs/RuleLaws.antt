@@ -3,7 +3,7 @@ use Rattle.std.proofs.Common.{◌≡◌, ℕ, true, false, ◌⊎◌, refl, inl,
 use Rattle.std.proofs.lemmas.Bool.{and_parts, and_from, and_cases, and_left, and_right}
 use Rattle.predicate_rel.specs.declared.edge.Edge.{Edge}
 use Rattle.ia_insn.specs.declared.insn.Insn.{Insn}
-use Rattle.predicate_rel.specs.Pairs.{Pairs, in_range, common, IsWithin}
+use Rattle.predicate_rel.specs.Pairs.{Pairs, in_range, common, IsSubset}
 use Rattle.predicate_rel.specs.Rules.{PairRule, always, never, one, two, is_met, rule_of, pairs_after}
 
 -- The pairs of a meet are those of both.
@@ -17,7 +17,7 @@ unfolding common
 common-false f g x y h = and_cases (f x y) (g x y) h
 
 -- A rule that is met is met by a larger set.
-met_within : (r : PairRule) (f g : Pairs) → IsWithin f g → is_met r f ≡ true → is_met r g ≡ true
+met_within : (r : PairRule) (f g : Pairs) → IsSubset f g → is_met r f ≡ true → is_met r g ≡ true
 met_within always f g w h = refl
 met_within never f g w h = h
 met_within (one a b) f g w h = w.each a b h
@@ -25,7 +25,7 @@ met_within (two a b c d) f g w h =
     let both = and_parts (f a b) (f c d) h in and_from (g a b) (g c d) (w.each a b both.0) (w.each c d both.1)
 
 -- What is left of a larger set is larger.
-pub pairs_after-within : (f g : Pairs) (i : Insn) (e : Edge) → IsWithin f g → IsWithin (pairs_after f i e) (pairs_after g i e)
+pub pairs_after-within : (f g : Pairs) (i : Insn) (e : Edge) → IsSubset f g → IsSubset (pairs_after f i e) (pairs_after g i e)
 unfolding pairs_after
 pairs_after-within f g i e w = record {
   each = λ x y h. let both = and_parts (in_range x y) (is_met (rule_of i e x y) f) h in

@@ -1,6 +1,6 @@
 -- Sets that differ in some rows only, and what a set loses by what comes along an edge.
 use Rattle.std.specs.Prelude.{◌≡◌, ◌≢◌, ◌<◌, ℕ, true, false}
-use Rattle.predicate_rel.specs.Pairs.{Pairs, has_bit, common, IsWithin, HasMore}
+use Rattle.predicate_rel.specs.Pairs.{Pairs, has_bit, common, IsSubset, HasMore}
 use Rattle.predicate_rel.specs.Rules.{PairRule, pairs_by}
 
 -- The two sets have the same pairs in each row of which the word has no bit.
@@ -17,9 +17,9 @@ HasAllRows changed = (x : ℕ) → x < 64 → has_bit changed x ≡ true
 -- word, and some where that has one.
 pub record Narrows (rules : ℕ → ℕ → PairRule) (changed : ℕ) (before old new : Pairs) (rows : ℕ) : Type 0 where
   pub whole : HasAllRows changed → new ≡ common old (pairs_by before rules)
-  pub narrowed : (older : Pairs) → AgreeOutside changed older before → IsWithin old (pairs_by older rules)
+  pub narrowed : (older : Pairs) → AgreeOutside changed older before → IsSubset old (pairs_by older rules)
       → new ≡ common old (pairs_by before rules)
-  pub within : IsWithin new old
-  pub keeps : IsWithin (common old (pairs_by before rules)) new
+  pub within : IsSubset new old
+  pub keeps : IsSubset (common old (pairs_by before rules)) new
   pub lost : AgreeOutside rows old new
   pub more : rows ≢ 0 → HasMore old new

@@ -7,8 +7,8 @@ abbrev pub Pairs : Type 0
 Pairs = ℕ → ℕ → Bool
 
 -- What contracts see of `Facts`: 64 rows of 64 bits.
-abbrev pub Table : Type 0
-Table = List ℕ
+abbrev pub FactRows : Type 0
+FactRows = List ℕ
 
 -- Both numbers are those of predicates.
 unfoldable pub in_range : ℕ → ℕ → Bool
@@ -39,15 +39,15 @@ unfoldable pub has_bit : ℕ → ℕ → Bool
 has_bit row y = bit row y
 
 -- The truth value at row x and column y.
-abbrev pub truth : Table → ℕ → ℕ → Bool
+abbrev pub truth : FactRows → ℕ → ℕ → Bool
 truth rows x y = has_bit (slice_index rows x) y
 
 -- The pairs of a table.
-unfoldable pub pairs_of : Table → Pairs
+unfoldable pub pairs_of : FactRows → Pairs
 pairs_of rows = λ x y. in_range x y && truth rows x y
 
 -- Each pair of f is in g.
-pub record IsWithin (f g : Pairs) : Type 0 where
+pub record IsSubset (f g : Pairs) : Type 0 where
   pub each : (x y : ℕ) → f x y ≡ true → g x y ≡ true
 
 -- Some pair of f is not in g.

@@ -2,7 +2,7 @@
 
 ghost use Rattle.std.specs.Prelude.{◌≡◌, ◌≢◌, ℕ, ◌<◌, ◌&&◌, ◌||◌, ◌==◌, if◌then◌else◌, not, true};
 ghost use Rattle.std.specs.Bool.{OnTrue, OnFalse};
-ghost use Rattle.predicate_rel.specs.Pairs.{Table, has_bit, pairs_of, no_pairs, other_of, is_same_pair, with_pair, HasMore};
+ghost use Rattle.predicate_rel.specs.Pairs.{FactRows, has_bit, pairs_of, no_pairs, other_of, is_same_pair, with_pair, HasMore};
 ghost use Rattle.predicate_rel.specs.Changes.{AgreeOutside};
 ghost use Rattle.predicate_rel.specs.Rules.{action_rule, pairs_by, pairs_after};
 
@@ -24,7 +24,7 @@ pub struct Facts {
 }
 
 impl Model for Facts {
-    ghost Value = { Table };
+    ghost Value = { FactRows };
 
     ghost view = { λ facts. facts.rows };
 

@@ -7,4 +7,4 @@
 
 mod laws;
 
-pub use laws::pseudo_operations_are_others;
+pub use laws::pseudo_operations_make_instructions;

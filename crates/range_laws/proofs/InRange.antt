@@ -23,7 +23,7 @@ use Rattle.formats_b.specs.RowIndexesF.{row_index_of as row_index_f}
 use Rattle.formats_b.proofs.WordsF.{of_row_f}
 use Rattle.formats_b.specs.ListedX.{rows as rows_x, slot_part}
 use Rattle.formats_b.specs.RowIndexesX.{row_index_of as row_index_x}
-use Rattle.formats_b.specs.PartsX.{slot_op, IsWithin}
+use Rattle.formats_b.specs.PartsX.{slot_op, HasNumberInRange}
 use Rattle.formats_b.proofs.WordsX.{of_row_x}
 use Rattle.ia_program.specs.Listed.{IsListed}
 use Rattle.ia_program.proofs.OperandRanges.{all_ranges}
@@ -35,7 +35,7 @@ row_of_ranges : (qp : ℕ) (x : Op) → AreRegisters (operands_of qp x) → HasR
     ⊎ (AsRow rows_m (row_index_m (opcode_of x)) (record { qp = qp; op = x })
     ⊎ (AsRow rows_b (row_index_b (opcode_of x)) (record { qp = qp; op = x })
     ⊎ (AsRow rows_f (row_index_f (opcode_of x)) (record { qp = qp; op = x })
-    ⊎ (AsRow rows_x (row_index_x (opcode_of (slot_op x))) (record { qp = qp; op = slot_op x }) × IsWithin x)))))
+    ⊎ (AsRow rows_x (row_index_x (opcode_of (slot_op x))) (record { qp = qp; op = slot_op x }) × HasNumberInRange x)))))
 unfolding rows_a rows_i rows_m rows_b rows_f rows_x listed
 row_of_ranges qp x r h q = grind arith
 

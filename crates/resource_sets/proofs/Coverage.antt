@@ -44,7 +44,7 @@ use Rattle.resource_sets.specs.declared.access.Resource.TheVariants.{Gr, Pr, Br,
 use Rattle.resource_sets.specs.declared.access.Kind.{Kind}
 use Rattle.resource_sets.specs.declared.access.Kind.TheVariants.{Write as Writes, AllocWrite, LoopWrite, OrWrite, AndWrite, Spill}
 use Rattle.resource_sets.specs.declared.access.Access.{Access}
-use Rattle.resource_sets.specs.Rows.{is_named}
+use Rattle.resource_sets.specs.Rows.{is_not_zero}
 use Rattle.resource_sets.specs.Accesses.{test_rows, is_updated, own_rows, placed_rows, qp_rows, mask_rows, rotating_rows, counting_rows, rows_by_name, rows}
 use Rattle.resource_sets.proofs.Listing.{has_left, has_right, mask_row}
 use Rattle.ia_meaning.proofs.PredicateIndexes.{holds_zero, low_place}
@@ -83,7 +83,7 @@ may_write P false w ws h rest = rest
 
 -- The writes of general register r, of which r0 has none.
 abbrev WritesOf : (Write → Type 0) → FrameShape → ℕ → Type 0
-WritesOf P f r = (w : Write) → is_named r ≡ true → location_of f (Gr r) ≡ Some (location w) → P w
+WritesOf P f r = (w : Write) → is_not_zero r ≡ true → location_of f (Gr r) ≡ Some (location w) → P w
 
 spot_zero : (f : FrameShape) → spot f 0 ≡ Some (Static 0)
 unfolding spot
@@ -136,21 +136,21 @@ second_writes kind = refl
 abbrev TargetRow : (qp : ℕ) → CmpKind → (p q t : ℕ) → Kind → Type 0
 TargetRow qp kind p q t k = HasRow qp (under (test_guard kind qp) (Pr t) k) (test_rows kind p q)
 
-first_row : (qp : ℕ) (kind : CmpKind) (p q : ℕ) → is_named p ≡ true → TargetRow qp kind p q p (first_kind kind)
+first_row : (qp : ℕ) (kind : CmpKind) (p q : ℕ) → is_not_zero p ≡ true → TargetRow qp kind p q p (first_kind kind)
 first_row qp Normal p q n = inl (n, refl)
 first_row qp kind p q n = inl (n, refl)
 
-second_row : (qp : ℕ) (kind : CmpKind) (p q : ℕ) → is_named q ≡ true → TargetRow qp kind p q q (second_kind kind)
+second_row : (qp : ℕ) (kind : CmpKind) (p q : ℕ) → is_not_zero q ≡ true → TargetRow qp kind p q q (second_kind kind)
 second_row qp Normal p q n = inr (inl (n, refl))
 second_row qp kind p q n = inr (inl (n, refl))
 
 -- The writes of predicate p that an access of a kind allows; p0 has none.
 abbrev PredicateWrites : (Write → Type 0) → FrameShape → Kind → ℕ → Type 0
 PredicateWrites P f kind p =
-    (b : Bool) → MayPut kind (SetPredicate (predicate_index f p) b) → is_named p ≡ true → P (SetPredicate (predicate_index f p) b)
+    (b : Bool) → MayPut kind (SetPredicate (predicate_index f p) b) → is_not_zero p ≡ true → P (SetPredicate (predicate_index f p) b)
 
 module _ (P : Write → Type 0) (f : FrameShape) where
-  each_predicate : (p : ℕ) (b : Bool) (ws : List Write) → (is_named p ≡ true → P (SetPredicate (predicate_index f p) b))
+  each_predicate : (p : ℕ) (b : Bool) (ws : List Write) → (is_not_zero p ≡ true → P (SetPredicate (predicate_index f p) b))
       → Each P ws → Each P (set_predicate (predicate_spot f p) b ws)
   unfolding predicate_spot
   each_predicate zero b ws h rest = rest
@@ -177,7 +177,7 @@ module _ (qp : ℕ) (kind : CmpKind) (p1 p2 r2 r3 : ℕ) (c : Condition) (v : Re
   abbrev test_action : Action
   test_action = Test kind p1 p2 r2 r3 c
 
-  target_covered : (p : ℕ) (k : Kind) → (is_named p ≡ true → TargetRow qp kind p1 p2 p k) → writes_registers k ≡ true
+  target_covered : (p : ℕ) (k : Kind) → (is_not_zero p ≡ true → TargetRow qp kind p1 p2 p k) → writes_registers k ≡ true
       → PredicateWrites (IsCovered qp test_action v) v.frame k p
   target_covered p k row i b m n =
       let a : Access = under (test_guard kind qp) (Pr p) k in

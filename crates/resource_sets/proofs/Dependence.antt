@@ -30,17 +30,17 @@ use Rattle.ia_meaning.proofs.PredicateIndexes.{holds_zero}
 use Rattle.resource_sets.specs.declared.access.Resource.{Resource}
 use Rattle.resource_sets.specs.declared.access.Resource.TheVariants.{Gr, Pr}
 use Rattle.resource_sets.specs.declared.row.AccessRow.{AccessRow}
-use Rattle.resource_sets.specs.Rows.{is_named}
+use Rattle.resource_sets.specs.Rows.{is_not_zero}
 use Rattle.resource_sets.specs.Accesses.{rows_by_name, is_fill, is_framed, any_framed, other_name, test_rows, loop_rows, qp_rows, reads_plainly, reads_as_branch, own_rows}
 use Rattle.resource_sets.specs.AccessLaws.{AgreesAtEach, AgreesByPlace, DependsOnAccesses}
 
 -- r0 is 0.
-look_same : (v w : Registers) (r : ℕ) → (is_named r ≡ true → look v r ≡ look w r) → look v r ≡ look w r
+look_same : (v w : Registers) (r : ℕ) → (is_not_zero r ≡ true → look v r ≡ look w r) → look v r ≡ look w r
 unfolding look
 look_same v w zero h = refl
 look_same v w (suc r) h = h refl
 
-holds_same : (v w : Registers) (p : ℕ) → (is_named p ≡ true → holds v p ≡ holds w p) → holds v p ≡ holds w p
+holds_same : (v w : Registers) (p : ℕ) → (is_not_zero p ≡ true → holds v p ≡ holds w p) → holds v p ≡ holds w p
 unfolding holds
 holds_same v w zero h = refl
 holds_same v w (suc p) h = h refl

@@ -21,7 +21,7 @@ use Rattle.resource_sets.specs.declared.access.Access.{Access}
 use Rattle.resource_sets.specs.declared.clashes.Rule.TheVariants.{Raw, Waw, War63}
 use Rattle.resource_sets.specs.Accesses.{mask_rows, rows, accesses}
 use Rattle.resource_sets.specs.Clashes.{clash_of, clash, may_write_guard}
-use Rattle.resource_sets.specs.Masks.{may_clash}
+use Rattle.resource_sets.specs.InsnAccesses.{may_clash}
 
 -- The accesses of an instruction under a qualifying predicate.
 abbrev of : ℕ → Op → List Access

@@ -32,7 +32,7 @@ use Rattle.resource_sets.specs.declared.access.Kind.TheVariants.{Read, BranchRea
 use Rattle.resource_sets.specs.declared.access.Access.{Access}
 use Rattle.resource_sets.specs.declared.row.AccessRow.{AccessRow}
 use Rattle.resource_sets.specs.declared.clashes.Rule.TheVariants.{Raw, Waw}
-use Rattle.resource_sets.specs.Rows.{is_named, access, gr, pr, listed}
+use Rattle.resource_sets.specs.Rows.{is_not_zero, access, gr, pr, listed}
 use Rattle.resource_sets.specs.Accesses.{test_rows, is_updated, base_row, own_rows, other_name, application, call_rows, counting_rows, rotating_rows, loop_rows, place_rows, mask_rows, placed_rows, reads_plainly, qp_rows, is_framed, any_framed, frame_row, rows_by_name, rows, reads_as_branch}
 use Rattle.resource_sets.specs.Clashes.{clash_of, clash, writes_guard, may_write_guard}
 use Rattle.resource_sets.specs.AccessLaws.{AgreesOn, AgreesAtEach, AgreesByPlace, HasRow, HasAccess}
@@ -84,7 +84,7 @@ fact_of qp f a (row ∷ rows) h (inl k) = rw (← k.1) (h.0.fact k.0)
 fact_of qp f a (row ∷ rows) h (inr k) = fact_of qp f a rows h.1 k
 
 -- Of the registers and predicates that an instruction names.
-some_of : (n : ℕ) → is_named n ≡ true → 1 ≤ n
+some_of : (n : ℕ) → is_not_zero n ≡ true → 1 ≤ n
 some_of zero h = absurd (cc)
 some_of (suc n) h = omega arith
 
@@ -95,7 +95,7 @@ writes : {qp : ℕ} {f : Action} (r : ℕ) → RowFact qp f (gr r Write)
 writes r = record { fact = λ t. (some_of r t, tt) }
 
 updates : {qp : ℕ} {f : Action} (u : Update) (r : ℕ) → RowFact qp f (base_row u r)
-updates u r = record { fact = λ t. (some_of r (and_parts (is_updated u) (is_named r) t).1, tt) }
+updates u r = record { fact = λ t. (some_of r (and_parts (is_updated u) (is_not_zero r) t).1, tt) }
 
 target_row : {qp : ℕ} {f : Action} (guarded : Bool) (p : ℕ) (kind : Kind) → IsTarget f p
     → KindFact qp f kind (Pr p) (if guarded then qp else 0) → RowFact qp f (pr guarded p kind)
@@ -190,10 +190,10 @@ own_facts qp _ = tt
 -- Of the read of the frame, and of the qualifying predicate.
 guard_facts : (qp : ℕ) (f : Action) → RowFacts qp f (frame_row qp f ∷ qp_rows qp f)
 guard_facts qp f =
-    let name : (b : Bool) → (is_named qp && b) ≡ true → IsName qp f (Pr qp) = λ b t. (some_of qp (and_parts _ b t).0, inl refl) in (
+    let name : (b : Bool) → (is_not_zero qp && b) ≡ true → IsName qp f (Pr qp) = λ b t. (some_of qp (and_parts _ b t).0, inl refl) in (
       row_of tt (λ e. tt),
       (
-        record { fact = λ t. (name _ t, λ e. absurd (true≢false (sym (and_parts (is_named qp) _ t).1 ∙ e))) },
+        record { fact = λ t. (name _ t, λ e. absurd (true≢false (sym (and_parts (is_not_zero qp) _ t).1 ∙ e))) },
         (record { fact = λ t. (name _ t, (λ e. inl refl, λ e. inr (inl (and_from _ _ (and_parts _ _ t).0 e, refl)))) }, tt),
       ),
     )

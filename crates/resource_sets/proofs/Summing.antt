@@ -17,7 +17,7 @@ use Rattle.resource_sets.specs.declared.access.Access.{Access}
 use Rattle.resource_sets.specs.declared.masking.Summary.{Summary}
 use Rattle.resource_sets.specs.Clashes.{is_resource, clash_of, clash, writes_guard}
 use Rattle.resource_sets.specs.ResourceSets.{has_resource}
-use Rattle.resource_sets.specs.Masks.{may_clash, is_first, is_second, is_barred, is_made, IsSummary}
+use Rattle.resource_sets.specs.InsnAccesses.{may_clash, is_first, is_second, is_barred, is_made, IsSummary}
 use Rattle.resource_sets.proofs.Members.{any_of, some_of}
 use Rattle.resource_sets.proofs.AccessSets.{same_resource, resource_itself}
 use Rattle.resource_sets.proofs.BitWords.{or_false, bit_or_at}

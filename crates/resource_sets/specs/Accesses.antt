@@ -31,7 +31,7 @@ use Rattle.resource_sets.specs.declared.access.Kind.{Kind}
 use Rattle.resource_sets.specs.declared.access.Kind.TheVariants.{Read, BranchRead, Write, AllocWrite, LoopWrite, OrWrite, AndWrite, Spill, Fill}
 use Rattle.resource_sets.specs.declared.access.Access.{Access}
 use Rattle.resource_sets.specs.declared.row.AccessRow.{AccessRow}
-use Rattle.resource_sets.specs.Rows.{is_named, gr, pr, always, listed}
+use Rattle.resource_sets.specs.Rows.{is_not_zero, gr, pr, always, listed}
 
 -- The two targets of a test.
 abbrev pub test_rows : CmpKind → ℕ → ℕ → List AccessRow
@@ -47,7 +47,7 @@ is_updated u = true
 
 -- The base of a load or a store, which may be updated.
 abbrev pub base_row : Update → ℕ → AccessRow
-base_row u r = record { there = is_updated u && is_named r; guarded = true; resource = Gr r; kind = Write }
+base_row u r = record { there = is_updated u && is_not_zero r; guarded = true; resource = Gr r; kind = Write }
 
 -- The register that an instruction names and neither reads nor writes, or r0.
 abbrev pub other_name : Action → ℕ
@@ -172,8 +172,8 @@ reads_as_branch action = not (reads_plainly action)
 
 abbrev pub qp_rows : ℕ → Action → List AccessRow
 qp_rows qp f =
-    record { there = is_named qp && reads_plainly f; guarded = false; resource = Pr qp; kind = Read }
-    ∷ record { there = is_named qp && reads_as_branch f; guarded = false; resource = Pr qp; kind = BranchRead } ∷ []
+    record { there = is_not_zero qp && reads_plainly f; guarded = false; resource = Pr qp; kind = Read }
+    ∷ record { there = is_not_zero qp && reads_as_branch f; guarded = false; resource = Pr qp; kind = BranchRead } ∷ []
 
 -- A name of the frame.
 abbrev pub is_framed : Resource → Bool

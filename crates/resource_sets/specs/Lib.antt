@@ -4,6 +4,6 @@ pub mod Ranges
 pub mod ResourceSets
 pub mod AccessSets
 pub mod Accesses
-pub mod Masks
+pub mod InsnAccesses
 pub mod AccessLaws
 pub mod Regularity

@@ -17,7 +17,7 @@ use Rattle.resource_sets.specs.declared.access.Kind.TheVariants.{Read, BranchRea
 use Rattle.resource_sets.specs.declared.access.Access.{Access}
 use Rattle.resource_sets.specs.declared.row.AccessRow.{AccessRow}
 use Rattle.resource_sets.specs.declared.clashes.Rule.TheVariants.{Raw, Waw}
-use Rattle.resource_sets.specs.Rows.{is_named, listed}
+use Rattle.resource_sets.specs.Rows.{is_not_zero, listed}
 use Rattle.resource_sets.specs.Accesses.{rows_by_name, is_framed, accesses}
 use Rattle.resource_sets.specs.Clashes.{clash, may_write_guard}
 use Rattle.resource_sets.specs.AccessLaws.{AgreesOn, Agree, Location, PredicateAt, location_of, naming_frame, HasRow, HasAccess}
@@ -93,8 +93,8 @@ qp_read qp kind = record { resource = Pr qp; kind = kind; guard = 0 }
 
 -- The qualifying predicate is an access under p0: of a branch a BranchRead, of any other instruction a Read.
 pub record ReadsGuard (insn : Insn) : Type 0 where
-  pub plain : is_named insn.qp ≡ true → is_branch (insn_action insn) ≡ false → HasNamedAccess insn (qp_read insn.qp Read)
-  pub branch : is_named insn.qp ≡ true → is_branch (insn_action insn) ≡ true
+  pub plain : is_not_zero insn.qp ≡ true → is_branch (insn_action insn) ≡ false → HasNamedAccess insn (qp_read insn.qp Read)
+  pub branch : is_not_zero insn.qp ≡ true → is_branch (insn_action insn) ≡ true
       → HasNamedAccess insn (qp_read insn.qp BranchRead)
   pub framed : is_rotating insn.qp ≡ true → HasNamedAccess insn frame_read
 

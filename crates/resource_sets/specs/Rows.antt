@@ -7,16 +7,16 @@ use Rattle.resource_sets.specs.declared.access.Access.{Access}
 use Rattle.resource_sets.specs.declared.row.AccessRow.{AccessRow}
 
 -- r0 and p0 are no resources.
-abbrev pub is_named : ℕ → Bool
-is_named zero = false
-is_named (suc n) = true
+abbrev pub is_not_zero : ℕ → Bool
+is_not_zero zero = false
+is_not_zero (suc n) = true
 
 -- A general register under the qualifying predicate.
 abbrev pub gr : ℕ → Kind → AccessRow
-gr r kind = record { there = is_named r; guarded = true; resource = Gr r; kind = kind }
+gr r kind = record { there = is_not_zero r; guarded = true; resource = Gr r; kind = kind }
 
 abbrev pub pr : Bool → ℕ → Kind → AccessRow
-pr guarded p kind = record { there = is_named p; guarded = guarded; resource = Pr p; kind = kind }
+pr guarded p kind = record { there = is_not_zero p; guarded = guarded; resource = Pr p; kind = kind }
 
 -- A resource that has no number that leaves it out.
 abbrev pub always : Bool → Resource → Kind → AccessRow

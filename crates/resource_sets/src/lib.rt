@@ -23,5 +23,5 @@ pub use insn_accesses::{accesses, accesses_of};
 pub use laws::{
     accesses_are_regular, accesses_clash, effects_depend_on_accesses, writes_are_accesses,
 };
-pub use masking::{Masks, masks_of, may_clash, may_clash_with};
+pub use masking::{InsnAccesses, accesses_for, may_clash, may_clash_with};
 pub use sets::{RESOURCE_COUNT, ResourceSet};

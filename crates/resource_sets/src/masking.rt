@@ -6,7 +6,7 @@ ghost use Rattle.resource_sets.specs.declared.access.Access.{Access};
 ghost use Rattle.resource_sets.specs.Accesses.{placed_rows, accesses_of};
 ghost use Rattle.resource_sets.specs.AccessSets.{IsSetOf, ArePartsOf};
 ghost use Rattle.resource_sets.specs.Clashes.{writes_guard, may_write_guard};
-ghost use Rattle.resource_sets.specs.Masks.{may_clash, is_first, is_second, IsSummary};
+ghost use Rattle.resource_sets.specs.InsnAccesses.{may_clash, is_first, is_second, IsSummary};
 ghost use Rattle.resource_sets.specs.Ranges.{IsNumberInRange, AreInRange};
 ghost use Rattle.resource_sets.specs.Rows.{listed};
 
@@ -35,18 +35,18 @@ pub(crate) struct Summary {
 
 /// The accesses of an instruction, with what these have in all. Contracts see the list of the accesses.
 #[derive(Drop)]
-pub struct Masks {
+pub struct InsnAccesses {
     qp: Pr,
     action: Action,
     parts: Parts,
     summary: Summary,
 }
 
-impl Model for Masks {
+impl Model for InsnAccesses {
     ghost use Rattle.std.specs.Prelude.{List};
     ghost use Rattle.resource_sets.specs.declared.access.Access.{Access};
     ghost use Rattle.resource_sets.specs.Accesses.{accesses_of};
-    ghost use Rattle.resource_sets.specs.Masks.{AreSummed};
+    ghost use Rattle.resource_sets.specs.InsnAccesses.{AreSummed};
 
     ghost Value = { List Access };
 
@@ -135,7 +135,7 @@ fn add_placed(summary: &mut Summary, qp: Pr, action: &Action) -> AccessSet
     }
 }
 
-impl Masks {
+impl InsnAccesses {
     /// The accesses by name, and those by place.
     pub fn parts(&self) -> &Parts
         ensures { ArePartsOf self.now result.now }
@@ -153,14 +153,14 @@ impl Masks {
 }
 
 /// The masks of an instruction by its qualifying predicate and its action.
-pub fn masks_of(qp: Pr, action: &Action) -> Masks
+pub fn accesses_for(qp: Pr, action: &Action) -> InsnAccesses
     ensures { result ≡ accesses_of qp action.now }
 {
     let named = named_accesses(qp, action);
     let mut summary = Summary::none();
     summary.add_all(named.as_slice());
     let placed = add_placed(&mut summary, qp, action);
-    Masks {
+    InsnAccesses {
         qp,
         action: *action,
         parts: Parts { named, placed },
@@ -170,7 +170,7 @@ pub fn masks_of(qp: Pr, action: &Action) -> Masks
 
 /// Whether some access of the first may clash with some access of the second, if the first stands in an earlier slot
 /// of the group. False only where `clash` names no rule for any two of them.
-pub fn may_clash(first: &Masks, second: &Masks) -> bool
+pub fn may_clash(first: &InsnAccesses, second: &InsnAccesses) -> bool
     ensures { result ≡ false → may_clash first.now second.now ≡ false }
 {
     first.summary.barred.meets(&second.summary.made)
@@ -178,7 +178,7 @@ pub fn may_clash(first: &Masks, second: &Masks) -> bool
 
 /// Whether an access may clash with some access of the second, if it is made in an earlier slot of the group. False only
 /// where `clash` names no rule for it and any of them.
-pub fn may_clash_with(first: &Access, second: &Masks) -> bool
+pub fn may_clash_with(first: &Access, second: &InsnAccesses) -> bool
     requires { IsNumberInRange first.now.resource }
     ensures { result ≡ false → may_clash (first.now ∷ []) second.now ≡ false }
 {

@@ -4,7 +4,7 @@ use Rattle.std.proofs.lemmas.Bool.{true≢false}
 use Rattle.ia_program.specs.declared.place.Place.{Place}
 use Rattle.ia_program.specs.Programs.{Program, IsProgram}
 use Rattle.ia_meaning.specs.Sequence.{first_of}
-use Rattle.predicate_rel.specs.Pairs.{Pairs, pairs_of, IsWithin}
+use Rattle.predicate_rel.specs.Pairs.{Pairs, pairs_of, IsSubset}
 use Rattle.flow_facts.specs.Graphs.{InsnSequence, over_program, over_sequence}
 use Rattle.flow_facts.specs.Walks.{Walk, EndsIn, IsMeetIn, Known, facts_in}
 use Rattle.group_checker.specs.Windows.{IsKnownAt}
@@ -40,7 +40,7 @@ module _ (sequence : InsnSequence) (p : Program) (at : ℕ → Place) (n : ℕ) 
   meet_in_sequence : (f : Pairs) → IsMeetIn (over_program p) (at n) f → IsMeetIn (over_sequence sequence) (first_of n) f
   meet_in_sequence f meet = record {
     reached = reached;
-    sound = λ u there. let w = forth_at u there in subst (IsWithin f) (sym w.facts) (meet.sound w.walk w.there);
+    sound = λ u there. let w = forth_at u there in subst (IsSubset f) (sym w.facts) (meet.sound w.walk w.there);
     exact = exact;
   }
     where

@@ -30,7 +30,7 @@ application_write Pfs v = SetPfs v
 application_write Lc v = SetLc v
 application_write Ec v = SetEc v
 
--- A write of the register that stands at a place, where there is one, before other writes.
+-- A write of what a register is held in, where there is one, before other writes.
 abbrev pub set_at : Option Spot → Cell → List Write → List Write
 set_at None cell ws = ws
 set_at (Some d) cell ws = set_spot d cell ws

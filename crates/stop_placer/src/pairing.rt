@@ -30,7 +30,7 @@ use ia_program::Place;
 use ia_program::limits::BUNDLE_LIMIT;
 use loose_text::{Item, LooseText};
 use predicate_rel::Facts;
-use resource_sets::{Masks, masks_of};
+use resource_sets::{InsnAccesses, accesses_for};
 use sequence_laws::known_in_the_sequence;
 use slot_table::{Slot, SlotTable, may_fall};
 use std::alloc::{AllocError, Global};
@@ -103,7 +103,7 @@ fn sequence_place(n: usize) -> Place
 
 /// Whether an instruction breaks a rule with an earlier one of its group, where no `;;` stands between the one before
 /// and it: else this says nothing. `slot` says what stands there, `masks` what it accesses.
-fn is_pair(window: &Window, before: &Item, slot: &Slot, masks: &Masks) -> bool
+fn is_pair(window: &Window, before: &Item, slot: &Slot, masks: &InsnAccesses) -> bool
     ensures { before.now.written ≡ false → (g : Graph) (has_stop : Place → Bool) (j : Place) → HasWindow g has_stop window.now j slot.now masks.now → Decides result (IsViolatedAt g has_stop j) }
 {
     !before.written && window.has_violation(slot, masks)
@@ -137,13 +137,13 @@ pub(crate) fn pack(alloc: Global, text: &LooseText) -> Result<Packing, TextError
     let mut packing = Packing::begun_with(alloc, &items[0]);
     let mut window = Window::new(alloc);
     let first = slot_of(&insns[0]);
-    let accesses = masks_of(first.qp, &first.action);
+    let accesses = accesses_for(first.qp, &first.action);
     window.move_on(known.at(0), sequence_place(0), &first, accesses)?;
     for n in 1..items.len() {
         let before = &items[n - 1];
         let item = &items[n];
         let slot = slot_of(&insns[n]);
-        let masks = masks_of(slot.qp, &slot.action);
+        let masks = accesses_for(slot.qp, &slot.action);
         let pair = is_pair(&window, before, &slot, &masks);
         packing.next(before, item, pair)?;
         if packing.closed_count() == BUNDLE_LIMIT {

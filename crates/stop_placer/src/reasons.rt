@@ -16,7 +16,7 @@ use crate::packing::Cause;
 use flow_facts::{Analysis, InFacts};
 use group_checker::{Violation, Window};
 use ia_program::{Place, Program};
-use resource_sets::masks_of;
+use resource_sets::accesses_for;
 use slot_table::{Slot, SlotTable};
 use std::alloc::{AllocError, Global};
 
@@ -67,7 +67,7 @@ fn first_without(
             unreachable!();
         };
         let slot = slot_without(there, second, out);
-        let masks = masks_of(slot.qp, &slot.action);
+        let masks = accesses_for(slot.qp, &slot.action);
         if let Some(violation) = window.first_violation(second, &slot, &masks) {
             return Ok(violation);
         }

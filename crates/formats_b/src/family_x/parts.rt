@@ -1,7 +1,7 @@
 //! The parts of a long immediate: what the L slot and what the X slot holds.
 
 ghost use Rattle.std.specs.Prelude.{◌≡◌, ◌<◌, ◌^◌, ◌↔◌, IsTrue};
-ghost use Rattle.formats_b.specs.PartsX.{number_part, move_part, whole_number, whole_move, low_of, slot_op, whole_op, IsWithin};
+ghost use Rattle.formats_b.specs.PartsX.{number_part, move_part, whole_number, whole_move, low_of, slot_op, whole_op, HasNumberInRange};
 ghost use Rattle.formats_b.specs.ListedX.{slot_part};
 
 use bundle_bits::Field;
@@ -106,7 +106,7 @@ fn has_64_bits(number: u64)
 
 /// Whether a long immediate has its bits: 62 of a break or nop.
 pub(crate) fn is_within(op: &Op) -> bool
-    ensures { IsTrue result ↔ IsWithin op.now }
+    ensures { IsTrue result ↔ HasNumberInRange op.now }
 {
     match *op {
         Op::Movl { imm, .. } => {

@@ -18,11 +18,11 @@ few (suc k) at (c ∷ cs) = omega (arith, few k (at + 1) cs)
 few zero at (c ∷ cs) =
     one_more (is_blank c) (begins_comment c cs) _ _ _ (length cs) (few 0 (at + 1) cs) (few (more_at c cs + sharp_at c cs) (at + 1) cs)
 
-pub value_of-requires-clause-few : goal.value_of-requires-clause-few
-value_of-requires-clause-few c =
+pub line_of-requires-clause-few : goal.line_of-requires-clause-few
+line_of-requires-clause-few c =
     omega (arith, few 0 0 c.args.line.now, ap length (c.as_slice.ensures ∙ c.in_ok-lexemes_into.ensures.ok.1), c.requires)
 
 pub returns : goal.returns
 returns c =
-    c.value_of.ensures
+    c.line_of.ensures
     ∙ read_by_text c.args.line.now _ (c.as_slice.ensures ∙ c.in_ok-lexemes_into.ensures.ok.1) c.in_ok-lexemes_into.ensures.ok.0

@@ -65,12 +65,12 @@ slots-preserved c =
       place = next_place (over_program p) j next follows;
       window = c.in_ok-move_on.ensures (over_program p) (is_stopped p.bundles) next
           (rw c.at-in-slots.ensures (c.requires.facts j))
-          (under_way p j s at c.slots.window c.masks_of-seconds.result c.masks_of-seconds.ensures c.slots.invariant.window) follows;
+          (under_way p j s at c.slots.window c.accesses_for-seconds.result c.accesses_for-seconds.ensures c.slots.invariant.window) follows;
       reports =
           next_reported p c.check_second.new.report j next _ (second_bound * place_number next) follows
           (omega (arith, c.slots.invariant.window.size, ap (length {A = EarlierSlot}) c.earlier_slots.ensures))
-          (c.in_ok-check_second.ensures p (under_way p j s at c.earlier_slots.result.now c.masks_of-seconds.result
-          c.masks_of-seconds.ensures (rw c.earlier_slots.ensures c.slots.invariant.window)) c.slots.invariant.reports);
+          (c.in_ok-check_second.ensures p (under_way p j s at c.earlier_slots.result.now c.accesses_for-seconds.result
+          c.accesses_for-seconds.ensures (rw c.earlier_slots.ensures c.slots.invariant.window)) c.slots.invariant.reports);
     }
 
 pub returns-in_default-next : goal.returns-in_default-next
@@ -80,5 +80,5 @@ returns-in_default-next c =
     let s = c.in-Some.slot.now in
     let at = sym c.in-Some.ensures in
     all_reported p c.check_second.new.report j _ (sym (slot_next p j s at) ∙ c.in_default-next.is)
-    (c.in_ok-check_second.ensures p (under_way p j s at c.earlier_slots.result.now c.masks_of-seconds.result c.masks_of-seconds.ensures
+    (c.in_ok-check_second.ensures p (under_way p j s at c.earlier_slots.result.now c.accesses_for-seconds.result c.accesses_for-seconds.ensures
     (rw c.earlier_slots.ensures c.slots.invariant.window)) c.slots.invariant.reports)

@@ -12,6 +12,6 @@ returns c =
     let came : m ≡ groups_further c.args.groups p (begun (zero_state p)) = search rules in
     let printed =
     c.in_ok-state_text.ensures ∙ text_of_progress c.progress_is_run.ensures.run c.args.groups p m c.run-end.result
-    c.is_robust.ensures.program came c.run-end.ensures.end in
-    run_of_progress c.progress_is_run.ensures.run state_after c.args.groups p m c.run-end.result _ _ c.is_robust.ensures.program
-    c.is_robust.ensures.free c.is_robust.ensures.robust came c.run-end.ensures.end printed c.end_status.ensures
+    c.is_order_independent.ensures.program came c.run-end.ensures.end in
+    run_of_progress c.progress_is_run.ensures.run state_after c.args.groups p m c.run-end.result _ _ c.is_order_independent.ensures.program
+    c.is_order_independent.ensures.free c.is_order_independent.ensures.order_independent came c.run-end.ensures.end printed c.end_status.ensures

@@ -10,6 +10,6 @@ returns c =
     let m = c.run-end.new.self.progress in
     let came : m ≡ groups_further c.args.bundles p (begun (zero_state p)) = search rules in (
       trial_of_progress c.progress_is_run.ensures.run c.args.seed c.args.bundles p m c.run-end.result _ c.requires.made
-          c.is_robust.ensures.program c.is_robust.ensures.free c.is_robust.ensures.robust came c.run-end.ensures.end (search rules),
+          c.is_order_independent.ensures.program c.is_order_independent.ensures.free c.is_order_independent.ensures.order_independent came c.run-end.ensures.end (search rules),
       refl,
     )

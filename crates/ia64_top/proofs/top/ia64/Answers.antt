@@ -142,14 +142,14 @@ returns-in-Ok-write_all-clause-too_long g c =
     (g.S.Source.left c.read_input.new.source) c.deref.result.now c.in-Ok-respond.answer.bytes.items c.in-Ok-respond.answer.status
     (λ e. cc) c.in-Ok.ensures.too_long c.in-Ok-respond.ensures.output
 
-pub returns-in-Err-TooLong-clause-robust : goal.returns-in-Err-TooLong-clause-robust
-returns-in-Err-TooLong-clause-robust g c u = promised_beyond c.args.arguments.now (g.S.Source.left c.args.source.now)
+pub returns-in-Err-TooLong-clause-order_independent : goal.returns-in-Err-TooLong-clause-order_independent
+returns-in-Err-TooLong-clause-order_independent g c u = promised_beyond c.args.arguments.now (g.S.Source.left c.args.source.now)
 
 pub returns-in-Err-TooLong-clause-ordered : goal.returns-in-Err-TooLong-clause-ordered
 returns-in-Err-TooLong-clause-ordered g c u = runs_beyond c.args.arguments.now _ (g.S.Source.left c.args.source.now) _ _
 
-pub returns-in-Ok-write_all-clause-robust : goal.returns-in-Ok-write_all-clause-robust
-returns-in-Ok-write_all-clause-robust g c u =
+pub returns-in-Ok-write_all-clause-order_independent : goal.returns-in-Ok-write_all-clause-order_independent
+returns-in-Ok-write_all-clause-order_independent g c u =
     let one = either_gives_one c.one_program.ensures c.one_text_program.ensures in
     let whole =
     same_read c.in-Some.command (g.S.Source.left c.args.source.now) c.deref.result.now c.in-Ok.input.items c.deref.ensures.value

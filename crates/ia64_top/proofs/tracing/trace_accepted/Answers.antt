@@ -17,7 +17,7 @@ loop-left-init c =
     ]) in
     let printed = rw c.new-bytes.ensures.items at c.in_ok-push_state.ensures in
     begins c.progress_is_run.ensures.run c.progress_is_run.ensures.events c.args.accepted.now c.args.first c.args.count
-    c.if-first-gt0.machine _ c.is_robust.ensures.program started (omega (arith, c.requires.before, c.requires.few)) printed
+    c.if-first-gt0.machine _ c.is_order_independent.ensures.program started (omega (arith, c.requires.before, c.requires.few)) printed
 
 pub loop-left-preserved : goal.loop-left-preserved
 loop-left-preserved c =
@@ -35,5 +35,5 @@ returns c =
       | else-loop-left-test w ↦ inl (omega (arith, w.loop-left-test.false))
     ]) in
     run_of_progress c.progress_is_run.ensures.run (trace_text c.args.first c.args.count)
-    (c.args.first + c.args.count) c.args.accepted.now c.loop-left.machine.progress c.ending.result _ _ c.is_robust.ensures.program
-    c.is_robust.ensures.free c.is_robust.ensures.robust traced.came c.ending.ensures traced.printed c.end_status.ensures
+    (c.args.first + c.args.count) c.args.accepted.now c.loop-left.machine.progress c.ending.result _ _ c.is_order_independent.ensures.program
+    c.is_order_independent.ensures.free c.is_order_independent.ensures.order_independent traced.came c.ending.ensures traced.printed c.end_status.ensures

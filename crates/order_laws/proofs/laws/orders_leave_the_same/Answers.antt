@@ -1,5 +1,5 @@
 use Rattle.order_laws.proofs.Orders.{orders, frames}
-use Rattle.order_laws.proofs.RunOrders.{group_ordered, next_group_ordered, free_robust}
+use Rattle.order_laws.proofs.RunOrders.{group_ordered, next_group_ordered, free_order_independent}
 use Rattle.order_laws.proofs.laws.orders_leave_the_same.Goals as goal
 
 pub returns-clause-registers : goal.returns-clause-registers
@@ -15,4 +15,4 @@ pub returns-clause-next : goal.returns-clause-next
 returns-clause-next c = next_group_ordered
 
 pub returns-clause-run : goal.returns-clause-run
-returns-clause-run c = free_robust
+returns-clause-run c = free_order_independent

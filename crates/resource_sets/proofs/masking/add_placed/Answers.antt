@@ -7,7 +7,7 @@ use Rattle.resource_sets.specs.Rows.{listed}
 use Rattle.resource_sets.specs.Ranges.{AreInRange}
 use Rattle.resource_sets.specs.Accesses.{placed_rows}
 use Rattle.resource_sets.specs.Clashes.{is_resource}
-use Rattle.resource_sets.specs.Masks.{IsSummary}
+use Rattle.resource_sets.specs.InsnAccesses.{IsSummary}
 use Rattle.resource_sets.proofs.AccessSets.{set_of, in_alike, ArePlaced, placed_alike}
 use Rattle.resource_sets.proofs.masking.add_placed.Goals as goal
 

@@ -34,10 +34,10 @@ loop-n-init c =
     (sym c.new-window.ensures) (first_window (over_sequence sequence) (stopped_by c.begun_with-packing.result.causes)) in
     let u =
     sequence_under_way sequence c.in_ok-insns.insns.items (stopped_by c.begun_with-packing.result.causes) c.new-window.result 0
-    c.index.result.now c.slot_of-first.result c.masks_of-accesses.result c.in_ok-insns.ensures (omega (arith, count, rows, some))
+    c.index.result.now c.slot_of-first.result c.accesses_for-accesses.result c.in_ok-insns.ensures (omega (arith, count, rows, some))
     c.index.ensures (open_gap c.begun_with-packing.result.causes 0
     (omega (arith, ap (λ (k : Packing). length k.causes) c.begun_with-packing.ensures))) c.slot_of-first.ensures
-    c.masks_of-accesses.ensures win in
+    c.accesses_for-accesses.ensures win in
     record {
       so = subst (IsPackedSo s 1) (sym c.begun_with-packing.ensures) (packed_first s c.index-items-0.result some is);
       room = rw c.begun_with-packing.ensures (omega arith);
@@ -86,8 +86,8 @@ returns-then-closed_count-eq-BUNDLE_LIMIT-clause-fault c =
     let last = last_so s n k so before (n - 1) (omega (arith, c.loop-n.auto.n)) was in
     let u =
     sequence_under_way sequence c.in_ok-insns.insns.items (stopped_by k.causes) c.loop-n.window n c.index-in-loop-n.result.now
-    c.slot_of-slot.result c.masks_of-masks.result c.in_ok-insns.ensures (omega (arith, count, rows, inside))
-    c.index-in-loop-n.ensures (open_gap k.causes n (omega (arith, so.gaps))) c.slot_of-slot.ensures c.masks_of-masks.ensures
+    c.slot_of-slot.result c.accesses_for-masks.result c.in_ok-insns.ensures (omega (arith, count, rows, inside))
+    c.index-in-loop-n.ensures (open_gap k.causes n (omega (arith, so.gaps))) c.slot_of-slot.ensures c.accesses_for-masks.ensures
     (c.loop-n.invariant.window (omega (arith, rows, inside))) in
     let right : IsRight s k before c.is_pair-pair.result = λ unwritten.
     subst (λ (m : ℕ). Decides c.is_pair-pair.result (IsPairAt s k.causes m)) (sym so.gaps)
@@ -127,8 +127,8 @@ loop-n-preserved c =
     let here = c.loop-n.invariant.window (omega (arith, rows, inside)) in
     let u =
     sequence_under_way sequence c.in_ok-insns.insns.items (stopped_by k.causes) c.loop-n.window n c.index-in-loop-n.result.now
-    c.slot_of-slot.result c.masks_of-masks.result c.in_ok-insns.ensures (omega (arith, count, rows, inside))
-    c.index-in-loop-n.ensures (open_gap k.causes n (omega (arith, so.gaps))) c.slot_of-slot.ensures c.masks_of-masks.ensures here in
+    c.slot_of-slot.result c.accesses_for-masks.result c.in_ok-insns.ensures (omega (arith, count, rows, inside))
+    c.index-in-loop-n.ensures (open_gap k.causes n (omega (arith, so.gaps))) c.slot_of-slot.ensures c.accesses_for-masks.ensures here in
     let right : IsRight s k before pair = λ unwritten.
     subst (λ (m : ℕ). Decides pair (IsPairAt s k.causes m)) (sym so.gaps)
     (c.is_pair-pair.ensures unwritten (over_sequence sequence) (stopped_by k.causes) (first_of n) u) in
@@ -142,8 +142,8 @@ loop-n-preserved c =
     (sym c.part.ensures) parted) in
     let under =
     sequence_under_way sequence c.in_ok-insns.insns.items (stopped_by new.causes) c.part.new.window n c.index-in-loop-n.result.now
-    c.slot_of-slot.result c.masks_of-masks.result c.in_ok-insns.ensures (omega (arith, count, rows, inside))
-    c.index-in-loop-n.ensures (open_gap new.causes n (omega (arith, gaps))) c.slot_of-slot.ensures c.masks_of-masks.ensures win in
+    c.slot_of-slot.result c.accesses_for-masks.result c.in_ok-insns.ensures (omega (arith, count, rows, inside))
+    c.index-in-loop-n.ensures (open_gap new.causes n (omega (arith, gaps))) c.slot_of-slot.ensures c.accesses_for-masks.ensures win in
     let known = c.in_ok-known.ensures.known n (omega (arith, rows, inside)) in
     record {
       so =

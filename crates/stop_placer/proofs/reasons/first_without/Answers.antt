@@ -28,8 +28,8 @@ returns-in-Some-first_violation c =
     let out = c.args.out in
     let j = c.slots.second in
     let u =
-    described_under_way (over_program p) (without_stop p out) c.slots.window j c.slot_without-slot.result c.masks_of-masks.result
-    (c.slot_without-slot.ensures.describes p (sym c.in-Some.ensures)) c.masks_of-masks.ensures c.slots.invariant.window in
+    described_under_way (over_program p) (without_stop p out) c.slots.window j c.slot_without-slot.result c.accesses_for-masks.result
+    (c.slot_without-slot.ensures.describes p (sym c.in-Some.ensures)) c.accesses_for-masks.ensures c.slots.invariant.window in
     first_of_all p out j c.in-Some-first_violation.violation c.slots.invariant.none
     (c.in-Some-first_violation.ensures (over_program p) (without_stop p out) u)
 
@@ -39,8 +39,8 @@ unreachable-requires-in_default-next c =
     let out = c.args.out in
     let j = c.slots.second in
     let u =
-    described_under_way (over_program p) (without_stop p out) c.slots.window j c.slot_without-slot.result c.masks_of-masks.result
-    (c.slot_without-slot.ensures.describes p (sym c.in-Some.ensures)) c.masks_of-masks.ensures c.slots.invariant.window in
+    described_under_way (over_program p) (without_stop p out) c.slots.window j c.slot_without-slot.result c.accesses_for-masks.result
+    (c.slot_without-slot.ensures.describes p (sym c.in-Some.ensures)) c.accesses_for-masks.ensures c.slots.invariant.window in
     let last : next_of p.bundles j ≡ None =
     sym (slot_next p j c.in-Some.there.now (sym c.in-Some.ensures)) ∙ sym c.slot_without-slot.ensures.next ∙ c.in_default-next.is in
     some_left p out j c.requires.cut.violated.0 c.requires.cut.violated.1 c.slots.invariant.none
@@ -53,8 +53,8 @@ slots-preserved c =
     let j = c.slots.second in
     let next = c.in-Some-next.next in
     let u =
-    described_under_way (over_program p) (without_stop p out) c.slots.window j c.slot_without-slot.result c.masks_of-masks.result
-    (c.slot_without-slot.ensures.describes p (sym c.in-Some.ensures)) c.masks_of-masks.ensures c.slots.invariant.window in
+    described_under_way (over_program p) (without_stop p out) c.slots.window j c.slot_without-slot.result c.accesses_for-masks.result
+    (c.slot_without-slot.ensures.describes p (sym c.in-Some.ensures)) c.accesses_for-masks.ensures c.slots.invariant.window in
     let follows : next_of p.bundles j ≡ Some next =
     sym (slot_next p j c.in-Some.there.now (sym c.in-Some.ensures)) ∙ sym c.slot_without-slot.ensures.next ∙ c.in-Some-next.is in
     record {

@@ -16,7 +16,7 @@ returns c g has_stop next known u follows =
     let mask = c.written_predicates-written.result in
     let all = advanced_with g j mask old _ _ (rw c.in_ok-push.ensures.items at (c.advance.ensures g has_stop j u.slot)) in
     rw all.is (next_window g has_stop j next f mask old all.others all.last
-    (slot_joins g has_stop j s u.slot next (sym c.joins.ensures ∙ c.if-not-joins.false) follows)
+    (slot_joins g has_stop j s u.slot next (sym c.goes_on_in_group.ensures ∙ c.if-not-goes_on_in_group.false) follows)
     (rw c.in-Some.is at known)
     (subst (λ (es : List EarlierSlot). IsWindow g has_stop es j) (sym was) u.window)
     all.advanced
@@ -29,8 +29,8 @@ returns-in_default c g has_stop next known u follows =
     follows
     (rw c.in_default.is at known))
 
-pub returns-then-not-joins : goal.returns-then-not-joins
-returns-then-not-joins c g has_stop next known u follows =
-    rw c.clear-then-not-joins.ensures.items (parted_window g has_stop c.args.place next
+pub returns-then-not-goes_on_in_group : goal.returns-then-not-goes_on_in_group
+returns-then-not-goes_on_in_group c g has_stop next known u follows =
+    rw c.clear-then-not-goes_on_in_group.ensures.items (parted_window g has_stop c.args.place next
     (slot_place g has_stop c.args.place c.args.slot.now u.slot) follows
-    (slot_parts g has_stop c.args.place c.args.slot.now u.slot next (sym c.joins.ensures ∙ c.if-not-joins.true)))
+    (slot_parts g has_stop c.args.place c.args.slot.now u.slot next (sym c.goes_on_in_group.ensures ∙ c.if-not-goes_on_in_group.true)))

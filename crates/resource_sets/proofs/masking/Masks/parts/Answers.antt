@@ -1,4 +1,4 @@
-use Rattle.resource_sets.proofs.masking.Masks.parts.Goals as goal
+use Rattle.resource_sets.proofs.masking.InsnAccesses.parts.Goals as goal
 
 pub returns : goal.returns
 returns c = rw (← c.self.view_is) c.self.invariant.parts

@@ -1,4 +1,4 @@
-use Rattle.resource_sets.proofs.masking.Masks.written_predicates.Goals as goal
+use Rattle.resource_sets.proofs.masking.InsnAccesses.written_predicates.Goals as goal
 
 pub returns : goal.returns
 returns c = rw (← c.self.view_is) c.self.invariant.sums.written

@@ -3,7 +3,7 @@ use Rattle.std.specs.Prelude.{Contains}
 use Rattle.std.proofs.lemmas.List.{take_all, take_more, append-nil}
 use Rattle.std.proofs.lemmas.List.Elements.{Contains-get_or}
 use Rattle.resource_sets.specs.declared.access.Access.{Access}
-use Rattle.resource_sets.specs.Masks.{IsSummary}
+use Rattle.resource_sets.specs.InsnAccesses.{IsSummary}
 use Rattle.resource_sets.proofs.masking.Summary.add_all.Goals as goal
 
 pub add-requires : goal.add-requires

@@ -1,6 +1,6 @@
 use Rattle.std.proofs.Common.{List, ◌++◌, take}
 use Rattle.resource_sets.specs.declared.access.Access.{Access}
-use Rattle.resource_sets.specs.Masks.{IsSummary}
+use Rattle.resource_sets.specs.InsnAccesses.{IsSummary}
 use Rattle.resource_sets.proofs.masking.Summary.add_all.Given as goal
 
 abbrev pub invariant-loop-n : goal.invariant-loop-n

@@ -2,9 +2,9 @@ use Rattle.std.proofs.Common.{◌≡◌, List, ◌++◌, ◌∙◌, ap, sym, sub
 use Rattle.resource_sets.specs.declared.access.Access.{Access}
 use Rattle.resource_sets.specs.Rows.{listed}
 use Rattle.resource_sets.specs.Accesses.{placed_rows, accesses_of}
-use Rattle.resource_sets.specs.Masks.{IsSummary}
+use Rattle.resource_sets.specs.InsnAccesses.{IsSummary}
 use Rattle.resource_sets.proofs.Listing.{in_two}
-use Rattle.resource_sets.proofs.masking.masks_of.Goals as goal
+use Rattle.resource_sets.proofs.masking.accesses_for.Goals as goal
 
 pub add_all-requires : goal.add_all-requires
 add_all-requires c = rw c.as_slice.ensures.value c.named_accesses-named.ensures.within
