@@ -11,6 +11,9 @@
 mod code;
 mod machine;
 mod run;
+mod text;
 mod work;
 
 pub use machine::Machine;
+pub use state_lines::WordText;
+pub use text::{push_outcome, state_text};

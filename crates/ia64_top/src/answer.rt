@@ -27,7 +27,7 @@ use asm_build::{
     TextError, assemble, canonical_texts_are_read_back, disassemble, list_of, no_fault_where_read,
     one_text_program,
 };
-use emulator::Machine;
+use emulator::{Machine, state_text};
 use group_checker::{Accepted, Report, Verdict, check};
 use group_engine::{GroupMachine, group_text};
 use ia_meaning::progress_is_run;
@@ -37,7 +37,6 @@ use image_form::{
     write_image, write_image_2_of, write_image_of,
 };
 use slot_table::SlotTable;
-use state_text::state_text;
 use std::alloc::{AllocError, Global};
 use stop_placer::{place_stops, placed_has_no_violation};
 use trial_maker::make;

@@ -9,14 +9,13 @@ ghost use Rattle.group_checker.specs.declared.report.Verdict.TheVariants.{Violat
 ghost use Rattle.asm_build.specs.declared.reason.TextError.TheVariants as error;
 
 use asm_build::{Reason, disassemble};
-use emulator::Machine;
+use emulator::{Machine, WordText, push_outcome};
 use group_checker::{Report, Violation};
 use ia_insn::Gr;
 use ia_program::{End, Place};
 use image_form::ImageFault;
 use insn_codec::SlotFault;
 use resource_sets::{Resource, Rule};
-use state_text::{WordText, push_outcome};
 use std::alloc::{AllocError, Global};
 use std::fmt;
 use stop_placer::{Packed, StopWhy, Why};

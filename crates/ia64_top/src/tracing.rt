@@ -7,10 +7,9 @@ ghost use Rattle.ia64_top.specs.declared.limits.TheConstants.{GROUP_LIMIT, TRACE
 ghost use Rattle.ia64_top.specs.Runs.{trace_text, IsRunOf};
 
 use crate::answer::{Answer, end_status};
-use emulator::Machine;
+use emulator::{Machine, state_text};
 use group_checker::Accepted;
 use ia_meaning::progress_is_run;
-use state_text::state_text;
 use std::alloc::{AllocError, Global};
 use watch_seam::push_group_line;
 

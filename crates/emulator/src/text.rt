@@ -1,15 +1,11 @@
-//! The state of a machine, as it is printed.
-//!
-//! The lines are those of `state_lines`, of what the machine holds.
-#![tactic(auto)]
+//! The state, as it is printed.
 
 ghost use Rattle.std.specs.Prelude.{◌≡◌, ◌++◌, IfOk, OnOk, OnErr, codes, decimal, string_bytes};
 ghost use Rattle.ia_meaning.specs.Progress.{end_of};
 ghost use Rattle.ia_meaning.specs.StateText.{line, end_text, state_text};
 
-use emulator::Machine;
+use crate::machine::Machine;
 use ia_program::End;
-pub use state_lines::WordText;
 use std::alloc::{AllocError, Global};
 
 /// Appends the first two lines of the state of a machine: how its run ended, and how many groups began.
@@ -24,10 +20,7 @@ pub fn push_outcome(out: &mut String, machine: &Machine<'_>, end: &End) -> Resul
     state_lines::push_outcome(out, end, machine.groups())
 }
 
-/// The state of a machine as it is printed, a line for each part that there is to tell: how the run
-/// ended, how many groups began, the frame, the resident range, r1 to r31 and the registers of the
-/// frame that aren't 0 without NaT, the predicates by place, the branch and the application
-/// registers, the words of the data that aren't 0, and the entries of the ALAT, the oldest first.
+/// The state of a machine as it is printed, in the lines of [`state_text`](state_lines::state_text).
 ///
 /// # Errors
 ///
