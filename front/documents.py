@@ -43,14 +43,14 @@ def said_source(source):
 def function_row(answer, verdict):
     function, texts = verdict.function, messages.Texts(verdict, answer.further)
 
-    def slot(position):
-        offset = function.offset(position[0])
-        return {"offset": offset, "slot": position[1], "text": None if position[0] == function.count else texts.text(position),
-                "source": said_source(answer.lines.get((function.section.index, offset, position[1])))}
+    def slot(place):
+        offset = function.offset(place[0])
+        return {"offset": offset, "slot": place[1], "text": None if place[0] == function.count else texts.text(place),
+                "source": said_source(answer.lines.get((function.section.index, offset, place[1])))}
 
     def pair(violation):
         return {"rule": violation.rule, "resource": violation.resource, "first": slot(violation.first),
-                "second": slot(violation.second), "only_by": [slot(position) for position, _ in verdict.ways.get(violation, ())]}
+                "second": slot(violation.second), "only_by": [slot(place) for place, _ in verdict.ways.get(violation, ())]}
 
     return {
         "section": function.section.name, "offset": function.start, "size": function.size, "name": function.name,

@@ -7,7 +7,7 @@ of HP-UX are big-endian, and of 32 bits where their programs are (System V ABI, 
 import struct
 from typing import Dict, List, NamedTuple
 
-from front.code import Addresses, CodeFile, Rank, Relocation, Section, Stretch, Symbol
+from front.code_file import Addresses, CodeFile, Rank, Relocation, Section, Stretch, Symbol
 from front.faults import Fault
 from front.content import part, rows, string, unpacked
 
@@ -214,7 +214,7 @@ class Elf(CodeFile):
 
     def relocation(self, what, home, symbols, fields):
         offset, info, addend = fields
-        at = self.addresses.place(offset) if self.linked else (home.index, offset)
+        at = self.addresses.location(offset) if self.linked else (home.index, offset)
         number, kind = (info >> 32, info & 0xFFFFFFFF) if self.width == 8 else (info >> 8, info & 0xFF)
         if number and number >= len(symbols):
             raise Fault(f"{what} names symbol {number}, and there are {len(symbols)}")
@@ -224,16 +224,16 @@ class Elf(CodeFile):
             return None
         symbol = symbols[number] if number else None
         name = symbol.name + (f"{addend:+#x}" if addend else "") if symbol and symbol.name else ""
-        return Relocation(at, kind in BRANCHES, self.place(symbol, addend), name)
+        return Relocation(at, kind in BRANCHES, self.location(symbol, addend), name)
 
-    def place(self, symbol, addend):
+    def location(self, symbol, addend):
         """Where a symbol and an addend are, or in a linked file an addend alone, or None."""
         if symbol is None:
-            return self.addresses.place(addend & (1 << 8 * self.width) - 1) if self.linked else None
+            return self.addresses.location(addend & (1 << 8 * self.width) - 1) if self.linked else None
         if symbol.section == 0 or symbol.kind == THREAD:
             return None
         if self.linked:
-            return self.addresses.place(symbol.value + addend & (1 << 8 * self.width) - 1)
+            return self.addresses.location(symbol.value + addend & (1 << 8 * self.width) - 1)
         return symbol.section, symbol.value + addend
 
     def pointing(self):
@@ -241,7 +241,7 @@ class Elf(CodeFile):
                 if header.kind in (PROGBITS, *ARRAYS) and not header.is_code and header.is_read_for_addresses]
 
     def entry(self):
-        return self.addresses.place(self.start) if self.linked else None
+        return self.addresses.location(self.start) if self.linked else None
 
     def stretches(self):
         """A table for unwinding has three words a function: its start, its end, and where more is told of it, each from
@@ -255,9 +255,9 @@ class Elf(CodeFile):
                 content = self.content(header)
                 row = struct.Struct(f"{self.order}3{WORD[self.width]}")
                 for start, end, _ in row.iter_unpack(content[:len(content) - len(content) % row.size]):
-                    place = self.addresses.place(base + start)
-                    if place and self.headers[place[0]].is_code and start < end:
-                        yield Stretch(*place, place[1] + end - start)
+                    location = self.addresses.location(base + start)
+                    if location and self.headers[location[0]].is_code and start < end:
+                        yield Stretch(*location, location[1] + end - start)
 
     def base_of(self, table, segments):
         """The start of the segment that a table for unwinding counts from: that of the code that it is of, which it names as

@@ -6,11 +6,11 @@ from enum import Enum
 from typing import List, NamedTuple, Optional
 
 from front import archive, elf, gnu, pe
-from front.code import CodeFile
+from front.code_file import CodeFile
 from front.faults import Fault, ProgramFault, printable
 from front.functions import Function, functions_of
 from front.content import opened
-from front.ties import cut_ties
+from front.isolation import isolate
 
 IMAGES = (b"IA64IMG1", b"IA64IMG2")
 # How many bytes the proved program takes.
@@ -60,7 +60,7 @@ def read_code(label, path, data, syscalls):
 def with_functions(label, path, data, code, syscalls):
     """A file of code with its functions, their ties cut."""
     functions = functions_of(code)
-    cut_ties(code, functions, syscalls)
+    isolate(code, functions, syscalls)
     return File(label, path, Kind.CODE, data, None, code, functions)
 
 

@@ -1,7 +1,7 @@
 """Where walks go in a function: which of its bundles one reaches (volume 3, chapter 4, formats of branches).
 
 It is read off the words, of those outside the profile too. Which bundles are on no walk only makes a note beside a verdict. But
-by `turns_of` front/ties.py also finds where code without symbols goes on behind an end, and declares an entry there: without it
+by `turns_of` front/isolation.py also finds where code without symbols goes on behind an end, and declares an entry there: without it
 a verdict would say nothing of what follows."""
 
 from typing import List, NamedTuple, Optional

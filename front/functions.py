@@ -9,7 +9,7 @@ from dataclasses import dataclass, field
 from typing import Dict, List, Tuple
 
 from front.bundle import PADDING, Bundle, split_all
-from front.code import Rank, Section, Symbol
+from front.code_file import Rank, Section, Symbol
 from front.faults import Why, printable
 
 # How many bundles and declared entries an image of version 2 has room for.
@@ -68,18 +68,18 @@ class Functions:
             self.rows.setdefault(function.section.index, []).append(function)
         self.starts = {index: [function.start for function in row] for index, row in self.rows.items()}
 
-    def at(self, place):
-        """The function that has a place, or None."""
-        if place is None or place[0] not in self.rows:
+    def at(self, location):
+        """The function that has a location, or None."""
+        if location is None or location[0] not in self.rows:
             return None
-        number = bisect_right(self.starts[place[0]], place[1]) - 1
-        function = self.rows[place[0]][number] if number >= 0 else None
-        return function if function and place[1] < function.end else None
+        number = bisect_right(self.starts[location[0]], location[1]) - 1
+        function = self.rows[location[0]][number] if number >= 0 else None
+        return function if function and location[1] < function.end else None
 
-    def name(self, place):
+    def name(self, location):
         """What stands there, by the name of its function."""
-        function = self.at(place)
-        return plus(function.name, place[1] - function.start) if function else None
+        function = self.at(location)
+        return plus(function.name, location[1] - function.start) if function else None
 
 
 def plus(name, offset):
@@ -106,7 +106,7 @@ def symbols_by_section(file):
     found = {}
     for symbol in file.symbols():
         if symbol.is_function:
-            found.setdefault(symbol.place[0], {}).setdefault(symbol.place[1], []).append(symbol)
+            found.setdefault(symbol.location[0], {}).setdefault(symbol.location[1], []).append(symbol)
     for stretch in file.stretches():
         symbol = Symbol("", Rank.LOCAL, (stretch.section, stretch.start), stretch.end - stretch.start, True)
         there = found.setdefault(stretch.section, {}).setdefault(stretch.start, [symbol])
@@ -140,7 +140,7 @@ def functions_of_symbols(section, content, symbols):
 
 
 def declare_inner(function, start, name):
-    """Declares the place of a function symbol inside a function as an entry of it."""
+    """Declares the location of a function symbol inside a function as an entry of it."""
     if start % 16 == function.start % 16:
         function.entries[(start - function.start) // 16] = f"function symbol {name}"
     else:
@@ -185,7 +185,7 @@ def cut_out(function, content, following):
 
 
 def why_not(function, section, count):
-    """Why a function can't be judged for its place and its size, or None."""
+    """Why a function can't be judged for its start and its size, or None."""
     if not section.is_stored:
         return Why("its section has no bytes in the file", "its section has no bytes in the file")
     if function.start % 16 or section.address % 16:

@@ -11,7 +11,7 @@ from pathlib import Path
 from typing import NamedTuple
 
 from front.bundle import NOPS, Bundle
-from front.code import WORD64
+from front.code_file import WORD64
 from front.faults import Fault, printable
 from front.content import read_file
 
@@ -126,8 +126,8 @@ class Source(NamedTuple):
 
 
 def source_lines(data, file, locations):
-    """Asks once a file, or once a section of an object file, for the source lines of places: section's number, offset,
-    slot. Tables of lines have the slot in the low bits of an address; where one hasn't, its bundle's row is found. A
+    """Asks once a file, or once a section of an object file, for the source lines of slots: a section's number, an offset,
+    a slot. Tables of lines have the slot in the low bits of an address; where one hasn't, its bundle's row is found. A
     section of an object file is asked for by its name, and so only where no other has this name."""
     tool, found = installed("addr2line"), {}
     if not tool or not locations or not any(section.name.endswith("debug_line") for section in file.sections):

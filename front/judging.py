@@ -3,7 +3,7 @@
 from dataclasses import dataclass, field, replace
 from typing import Dict, List, NamedTuple, Optional, Tuple
 
-from front import flow, riding, stand_ins, ways
+from front import floating_registers, flow, stand_ins, ways
 from front.bundle import NOPS, Bundle, branches, split, with_branch
 from front.faults import Why
 from front.functions import MOST_BUNDLES, Function
@@ -11,8 +11,8 @@ from front.program import Broken, Refusal, batches, image
 
 ACCEPTED, VIOLATED, NOT_JUDGED = "accepted", "violated", "not judged"
 
-# What riding looks at, and plain stand-ins don't, in words.
-CARRIED = tuple(stand_ins.UNSEEN[name] for name in ("f1", *riding.CARRIED))
+# What is looked at where it is mapped to general registers, and plain stand-ins don't look at, in words.
+MAPPED = tuple(stand_ins.UNSEEN[name] for name in ("f1", *floating_registers.APPLICATION))
 
 
 # Why nothing stands in for a word.
@@ -39,27 +39,27 @@ class Unlisted(NamedTuple):
 
 @dataclass
 class Piece:
-    """What is asked of a function: its bundles, or others in their place. `positions` says of the slots of these which of the
+    """What is asked of a function: its bundles, or others in their place. `places` says of the slots of these which of the
     function's own they stand for; where it is None they stand for themselves."""
     function: Function
     code: bytes
     entries: List[int]
-    positions: Optional[Dict[Tuple[int, int], Tuple[int, int]]] = None
-    ridden: Optional[riding.Ridden] = None
+    places: Optional[Dict[Tuple[int, int], Tuple[int, int]]] = None
+    mapped: Optional[floating_registers.Mapped] = None
 
     def count(self):
         return len(self.code) // 16
 
-    def position(self, bundle, slot):
+    def place(self, bundle, slot):
         """The place in the function of a slot of the piece: of its end bundle that behind the function's last."""
         if bundle >= self.count():
             return self.function.count, slot
-        return (bundle, slot) if self.positions is None else self.positions[bundle, slot]
+        return (bundle, slot) if self.places is None else self.places[bundle, slot]
 
     def told(self, broken):
         """What a line of a verdict on the piece tells of the function. Several may tell the same."""
-        resource = self.ridden.resource(broken.resource) if self.ridden else broken.resource
-        return Violation(broken.rule, resource, self.position(*broken.first), self.position(*broken.second))
+        resource = self.mapped.resource(broken.resource) if self.mapped else broken.resource
+        return Violation(broken.rule, resource, self.place(*broken.first), self.place(*broken.second))
 
 
 @dataclass
@@ -134,19 +134,19 @@ class Judge:
         if not verdict.stood_in:
             return Piece(function, bytes(function.code), entries)
         verdict.unlooked = list(dict.fromkeys(what for row in verdict.stood_in.values() for what in row.unseen))
-        if any(what in CARRIED for what in verdict.unlooked):
+        if any(what in MAPPED for what in verdict.unlooked):
             try:
-                ridden = self.ridden(function, bundles, entries)
-                verdict.unlooked = [what for what in verdict.unlooked if what not in CARRIED]
-                return ridden
-            except riding.NoRoom as reason:
-                guards = riding.floating_guards(bundles)
+                mapped = self.mapped_piece(function, bundles, entries)
+                verdict.unlooked = [what for what in verdict.unlooked if what not in MAPPED]
+                return mapped
+            except floating_registers.NotMapped as reason:
+                guards = floating_registers.floating_guards(bundles)
                 if guards:
                     said = "a branch is under a predicate that a floating-point instruction writes, and it can't be looked at"
                     verdict.faults.append(Why(said, f"{said}: {', '.join(guards)}, as {reason}"))
                     return None
-                verdict.unlooked = [f"{what} ({reason})" if what in CARRIED else what for what in verdict.unlooked]
-        return self.plain(function, bundles, entries)
+                verdict.unlooked = [f"{what} ({reason})" if what in MAPPED else what for what in verdict.unlooked]
+        return self.stand_in_piece(function, bundles, entries)
 
     def look(self, verdict, bundles):
         """Finds what of a function the program doesn't take, and what stands in for it."""
@@ -160,23 +160,23 @@ class Judge:
                     verdict.stood_in[index, slot] = row
 
     @staticmethod
-    def ridden(function, bundles, entries):
-        ridden = riding.ride(bundles)
-        if len(ridden.bundles) >= MOST_BUNDLES:
-            raise riding.NoRoom("it would have too many bundles")
-        code = b"".join(bundle.packed() for bundle in ridden.bundles)
-        return Piece(function, code, [ridden.starts[entry] for entry in entries], ridden.positions, ridden)
+    def mapped_piece(function, bundles, entries):
+        mapped = floating_registers.on_general_registers(bundles)
+        if len(mapped.bundles) >= MOST_BUNDLES:
+            raise floating_registers.NotMapped("it would have too many bundles")
+        code = b"".join(bundle.packed() for bundle in mapped.bundles)
+        return Piece(function, code, [mapped.starts[entry] for entry in entries], mapped.places, mapped)
 
     @staticmethod
-    def plain(function, bundles, entries):
+    def stand_in_piece(function, bundles, entries):
         """Each bundle with what stands in for its instructions."""
-        code, positions = [], {}
+        code, places = [], {}
         for index, bundle in enumerate(bundles):
             stood = stand_ins.stood_in(bundle)
             code.append(stood.bundle.packed())
             for slot in range(3):
-                positions[index, slot] = index, stood.slots.get(slot, slot)
-        return Piece(function, b"".join(code), entries, positions)
+                places[index, slot] = index, stood.slots.get(slot, slot)
+        return Piece(function, b"".join(code), entries, places)
 
     # ---- What is answered
 
@@ -212,7 +212,7 @@ class Judge:
                 self.take(half, *self.ask(half))
             return
         for row in broken:
-            (number, first), (other, second) = (owner(batch, position[0]) for position in (row.first, row.second))
+            (number, first), (other, second) = (owner(batch, place[0]) for place in (row.first, row.second))
             if number is None or number != other:
                 raise self.program.unknown("check", f"{row}")
             verdict, piece = batch[number]
@@ -232,7 +232,7 @@ class Judge:
         def ask(code):
             return self.program.check(image([(code, piece.entries)]))
 
-        verdict.ways = {piece.told(row): [(piece.position(*position), piece.position(target, 0)[0]) for position, target in found]
+        verdict.ways = {piece.told(row): [(piece.place(*place), piece.place(target, 0)[0]) for place, target in found]
                         for row, found in ways.ways(ask, piece.code, verdict.broken).items()}
         if self.verbose:
             verdict.excused = list(dict.fromkeys(map(piece.told, ways.excused(ask, piece.code, verdict.broken))))
@@ -241,19 +241,19 @@ class Judge:
         """Says why the program refuses a piece."""
         unknown, refusal = self.unknown_slots(piece.code, piece.entries, set(), refusal)
         if unknown:
-            self.add_unknown(verdict, (piece.position(*position) for position in unknown))
+            self.add_unknown(verdict, (piece.place(*place) for place in unknown))
             return
         verdict.faults.append(self.why_refused(piece, refusal))
 
     @staticmethod
     def why_refused(piece, refusal):
         """Why the program refuses a piece, beside instructions outside the profile."""
-        position = piece.position(refusal.bundle, refusal.slot or 0)
-        place = f"{piece.function.offset(position[0]):+#x}" + (f" slot {position[1]}" if refusal.slot is not None else "")
+        place = piece.place(refusal.bundle, refusal.slot or 0)
+        said_place = f"{piece.function.offset(place[0]):+#x}" + (f" slot {place[1]}" if refusal.slot is not None else "")
         if refusal.why == "long run":
-            return Why("more than 192 slots without a stop", f"more than 192 slots without a stop, up to {place}")
+            return Why("more than 192 slots without a stop", f"more than 192 slots without a stop, up to {said_place}")
         said = f"the program refuses it, {refusal.why}"
-        return Why(said, f"{said}, at {place}")
+        return Why(said, f"{said}, at {said_place}")
 
     def unknown_slots(self, code, entries, left_out, refusal=None):
         """The slots of bundles that the program doesn't take, beside those that are left out, as far as they are looked for,
@@ -272,8 +272,8 @@ class Judge:
             refusal = None
 
     @staticmethod
-    def add_unknown(verdict, positions):
-        verdict.unlisted = sorted(verdict.unlisted + [Unlisted(*position, UNKNOWN) for position in positions],
+    def add_unknown(verdict, places):
+        verdict.unlisted = sorted(verdict.unlisted + [Unlisted(*place, UNKNOWN) for place in places],
                                   key=lambda slot: (slot.bundle, slot.slot or 0))
 
     @staticmethod
@@ -350,10 +350,10 @@ def outside_slots(verdict):
     return {*verdict.stood_in, *((slot.bundle, slot.slot) for slot in verdict.unlisted)}
 
 
-def without_slots(code, positions):
+def without_slots(code, places):
     """Bundles with nops in these places; of a reserved template, which is the slot None, one of nops."""
     read = bytearray(code)
-    for index, slot in positions:
+    for index, slot in places:
         bundle = split(read[16 * index:16 * index + 16])
         if slot is None:
             bundle = Bundle(0x00, (NOPS["m"], NOPS["i"], NOPS["i"]))

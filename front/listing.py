@@ -183,5 +183,5 @@ def why_not_built(texts):
     verdict = texts.verdict
     found = [verdict.refusal.said] if verdict.refusal else []
     found += [f"{slot.why} ({verdict.function.offset(slot.bundle):+#x})" for slot in verdict.unlisted]
-    found += [f"{messages.said_slot(texts, position)} is outside the profile" for position in verdict.unread]
+    found += [f"{messages.said_slot(texts, place)} is outside the profile" for place in verdict.unread]
     return [", and ".join(found[:1] + [f"{len(found) - 1} more"] * (len(found) > 1))] * bool(found)

@@ -8,7 +8,7 @@ from front import ways
 from front.bundle import branches
 from front.judging import NOT_JUDGED, UNKNOWN
 from front.rules import RULES
-from front.ties import TABLES
+from front.isolation import TABLES
 
 
 class Severity(Enum):
@@ -40,13 +40,13 @@ class Texts:
     def bundle(self, index):
         return self.verdict.function.bundles[index]
 
-    def text(self, position, named=None):
+    def text(self, place, named=None):
         """A slot's text, with its target as an offset or as the name of what is there; or by `named`, which gives the name of
         the target of a slot, the bundle with this number from the function's start."""
-        index, slot = position
+        index, slot = place
         texts = self.verdict.texts
         own = texts[index][slot] if texts and slot < len(texts[index]) else None
-        own = own or self.verdict.function.texts.get(position)
+        own = own or self.verdict.function.texts.get(place)
         bundle = self.bundle(index)
         text = own or self.further.get((bundle, slot)) or f"word {bundle.words[2 if bundle.units[slot] == 'l' else slot]:#013x}"
         target = self.targets(index).get(slot)
@@ -72,26 +72,26 @@ class Texts:
 
 def wanted_texts(verdict, verbose):
     """The slots of a function whose texts the proved program doesn't give: each as its bundle and slot."""
-    positions = {position for pair in verdict.violations + verdict.excused for position in (pair.first, pair.second)}
-    wanted = [position for position in verdict.stood_in if position in positions or verbose]
+    places = {place for pair in verdict.violations + verdict.excused for place in (pair.first, pair.second)}
+    wanted = [place for place in verdict.stood_in if place in places or verbose]
     wanted += [(slot.bundle, slot.slot) for slot in verdict.unlisted if slot.slot is not None]
     return [(verdict.function.bundles[index], slot) for index, slot in wanted]
 
 
-def said_position(function, position):
-    return f"({function.offset(position[0]):+#x} slot {position[1]})"
+def said_place(function, place):
+    return f"({function.offset(place[0]):+#x} slot {place[1]})"
 
 
-def said_slot(texts, position):
+def said_slot(texts, place):
     """A slot's text and place. The one in the end bundle stands for what is behind the function."""
     function = texts.verdict.function
-    if position[0] == function.count:
+    if place[0] == function.count:
         return f"what is behind the function, at {function.end:+#x},"
-    return f"'{texts.text(position)}' {said_position(function, position)}"
+    return f"'{texts.text(place)}' {said_place(function, place)}"
 
 
 def said_violation(violation, texts):
-    return said_clash(violation, *(said_slot(texts, position) for position in (violation.first, violation.second)))
+    return said_clash(violation, *(said_slot(texts, place) for place in (violation.first, violation.second)))
 
 
 def said_clash(violation, first, second):
@@ -101,7 +101,7 @@ def said_clash(violation, first, second):
 
 def said_ways(verdict, violation):
     return ways.said(verdict.ways.get(violation, ()),
-                     lambda position: f"{verdict.function.offset(position[0]):+#x} slot {position[1]}")
+                     lambda place: f"{verdict.function.offset(place[0]):+#x} slot {place[1]}")
 
 
 def mnemonic(text):
@@ -121,10 +121,10 @@ def said_unlisted(unlisted, texts):
 def said_slot_outside(unlisted, texts):
     """A slot outside the profile by its text and place, and why nothing stands in for it."""
     if unlisted.slot is None:
-        return f"{unlisted.why} {said_position(texts.verdict.function, (unlisted.bundle, 0))}"
-    position = unlisted.bundle, unlisted.slot
+        return f"{unlisted.why} {said_place(texts.verdict.function, (unlisted.bundle, 0))}"
+    place = unlisted.bundle, unlisted.slot
     why = f": {unlisted.why}" if unlisted.why != UNKNOWN else ""
-    return f"'{texts.text(position)}' {said_position(texts.verdict.function, position)}{why}"
+    return f"'{texts.text(place)}' {said_place(texts.verdict.function, place)}{why}"
 
 
 def counted(count, what):
@@ -145,19 +145,19 @@ def verdict_messages(verdict, texts, verbose):
         said = "; ".join(why.said for why in verdict.faults)
         yield Message(Severity.WARNING, start, (start, 0), f"{NOT_JUDGED}: {said}", UNJUDGED)
     elif verdict.unlisted:
-        positions = [(function.offset(slot.bundle), slot.slot or 0) for slot in verdict.unlisted]
+        places = [(function.offset(slot.bundle), slot.slot or 0) for slot in verdict.unlisted]
         first, more = verdict.unlisted[0], len(verdict.unlisted) - 1
         slot = "" if first.slot is None else f" slot {first.slot}"
-        text = f"{said_unlisted(first, texts)} at {positions[0][0]:+#x}{slot}" + (f", and {more} more" if more else "")
-        yield Message(Severity.WARNING, start, positions[0], f"{NOT_JUDGED}: {text}", UNJUDGED)
-        for slot, position in zip(verdict.unlisted, positions) if verbose else []:
-            yield Message(Severity.NOTE, position[0], position, f"outside the profile: {said_slot_outside(slot, texts)}")
+        text = f"{said_unlisted(first, texts)} at {places[0][0]:+#x}{slot}" + (f", and {more} more" if more else "")
+        yield Message(Severity.WARNING, start, places[0], f"{NOT_JUDGED}: {text}", UNJUDGED)
+        for slot, place in zip(verdict.unlisted, places) if verbose else []:
+            yield Message(Severity.NOTE, place[0], place, f"outside the profile: {said_slot_outside(slot, texts)}")
     elif verbose:
         said = counted(verdict.total, "violation") if verdict.total else "accepted"
         yield Message(Severity.NOTE, start, (start, 0), said + qualified(verdict))
-        for position, row in sorted(verdict.stood_in.items()):
-            yield Message(Severity.NOTE, function.offset(position[0]), (function.offset(position[0]), position[1]),
-                          f"stood in for: '{texts.text(position)}' {said_position(function, position)}")
+        for place, row in sorted(verdict.stood_in.items()):
+            yield Message(Severity.NOTE, function.offset(place[0]), (function.offset(place[0]), place[1]),
+                          f"stood in for: '{texts.text(place)}' {said_place(function, place)}")
     for violation in verdict.violations:
         offset = function.offset(violation.second[0])
         yield Message(Severity.ERROR, offset, (offset, violation.second[1]),
@@ -187,7 +187,7 @@ def notes(verdict, verbose):
         first = verdict.indirect[0]
         said = "no table of its targets was found" if not has_table else \
             f"{len(verdict.indirect) - 1} more, and perhaps not all tables of their targets were found"
-        yield start, (function.offset(first[0]), first[1]), f"an indirect branch {said_position(function, first)}, and {said}"
+        yield start, (function.offset(first[0]), first[1]), f"an indirect branch {said_place(function, first)}, and {said}"
     if verdict.falls_out:
         yield start, (function.end - 16, 2), f"it falls out of its end, {function.end:+#x}"
     if function.has_odd_relocation:

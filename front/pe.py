@@ -9,7 +9,7 @@ import struct
 from typing import Dict, List, NamedTuple, Optional
 
 from front.bundle import split
-from front.code import WORD64, Addresses, CodeFile, Rank, Relocation, Section, Stretch, Symbol
+from front.code_file import WORD64, Addresses, CodeFile, Rank, Relocation, Section, Stretch, Symbol
 from front.faults import Fault
 from front.content import part, string, unpacked
 
@@ -164,7 +164,7 @@ class Pe(CodeFile):
         return Header(index, self.section_name(index, name), address if self.linked else 0, size, offset, relocations_at,
                       relocation_count, flags, is_stored)
 
-    # ---- Names and places
+    # ---- Names and locations
 
     def section_name(self, index, name):
         """A name of more than eight bytes stands in the table of strings, where there is one."""
@@ -196,11 +196,11 @@ class Pe(CodeFile):
 
     def stored_at(self, address, size):
         """The byte of the file where what is at an address begins, or None where not so many bytes of it are stored."""
-        place = self.addresses.place(self.base + address)
-        header = self.headers[place[0]] if place else None
-        if header is None or not header.is_stored or place[1] + size > header.size:
+        location = self.addresses.location(self.base + address)
+        header = self.headers[location[0]] if location else None
+        if header is None or not header.is_stored or location[1] + size > header.size:
             return None
-        at = header.offset + place[1]
+        at = header.offset + location[1]
         return at if at + size <= len(self.data) else None
 
     def stored(self, address, size, what):
@@ -215,9 +215,9 @@ class Pe(CodeFile):
         return self.stored(address, size, what) if address and size else b""
 
     def code_at(self, address):
-        """The place that has this whole address, where it is in code, or None."""
-        place = self.addresses.place(address)
-        return place if place and self.headers[place[0]].is_code else None
+        """The location that has this whole address, where it is in code, or None."""
+        location = self.addresses.location(address)
+        return location if location and self.headers[location[0]].is_code else None
 
     def function_at(self, address):
         """The code of a function that is told by its descriptor there, or None. Where no descriptor is there, but code, as
@@ -278,9 +278,9 @@ class Pe(CodeFile):
         table, found = self.stored(addresses, 4 * count, "the table of exports") if count else b"", []
         named = self.names_of_exports(count, name_count, names, numbers) if name_count else {}
         for index, (address,) in enumerate(struct.iter_unpack("<I", table)):
-            place = None if start <= address < start + size else self.function_at(address)
-            if place:
-                found += [Symbol(name, Rank.GLOBAL, place, 0, True)
+            location = None if start <= address < start + size else self.function_at(address)
+            if location:
+                found += [Symbol(name, Rank.GLOBAL, location, 0, True)
                           for name in named.get(index, [f"ordinal {first + index}"])]
         return found
 
@@ -300,9 +300,9 @@ class Pe(CodeFile):
         """A table for unwinding has three addresses a function: its start, its end, and where more is told of it."""
         table = self.directory(EXCEPTIONS, "the exception directory") if self.linked else b""
         for start, end, _ in STRETCH.iter_unpack(table[:len(table) - len(table) % STRETCH.size]):
-            place = self.code_at(self.base + start)
-            if place and start < end:
-                yield Stretch(*place, place[1] + end - start)
+            location = self.code_at(self.base + start)
+            if location and start < end:
+                yield Stretch(*location, location[1] + end - start)
 
     def entry(self):
         return self.function_at(self.start) if self.linked and self.start else None
@@ -342,7 +342,7 @@ class Pe(CodeFile):
         else:
             word, = struct.unpack_from("<Q" if kind == WORD else "<I", self.data, at)
         to = self.code_at(word)
-        return Relocation(self.addresses.place(self.base + address), False, to, "") if to else None
+        return Relocation(self.addresses.location(self.base + address), False, to, "") if to else None
 
     def object_relocations(self):
         """Those of all sections whose addresses are read."""

@@ -30,7 +30,7 @@ def image(pieces):
       only by a branch, in another group. A `clrrrb` in last place without a stop is violated here as there: whatever
       stands behind it has to stand in another group.
     - A walk that comes into the function from elsewhere comes to its start, which may be called from anywhere and so
-      is an entry, or to a declared entry (`cut_ties`). There nothing is known, whatever is known where the walk comes
+      is an entry, or to a declared entry (`isolate`). There nothing is known, whatever is known where the walk comes
       from; so a pair that only that would excuse is violated here.
 
     What isn't looked at: what other functions do, and pairs of slots of which one is in another function, which share

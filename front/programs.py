@@ -6,7 +6,7 @@ from bisect import bisect_left
 
 from front import flow, ways
 from front.bundle import split_all
-from front.code import Section
+from front.code_file import Section
 from front.faults import ProgramFault
 from front.files import Kind
 from front.functions import Function
@@ -146,9 +146,9 @@ class Image(Parts):
 def text_findings(file, slots, broken, found, excused):
     """A message at the later slot of each pair, and a note at the earlier one. Where a pair shares its slots with a loop's
     edge, the later one in the group may stand before it in the text."""
-    def slot(position):
+    def slot(place):
         try:
-            return slots[position[0]][position[1]]
+            return slots[place[0]][place[1]]
         except IndexError:
             raise ProgramFault(f"the slots of {file.label} aren't where they were looked for") from None
 
@@ -157,7 +157,7 @@ def text_findings(file, slots, broken, found, excused):
 
     for row in broken:
         first, second = slot(row.first), slot(row.second)
-        only = ways.said(found.get(row, ()), lambda position: f"line {slot(position).line}")
+        only = ways.said(found.get(row, ()), lambda place: f"line {slot(place).line}")
         said = said_pair(row, first.text, second.text)
         yield finding(Severity.ERROR, second, f"{row.rule} {row.resource}: {said}{only}", row.rule)
         yield finding(Severity.NOTE, first, f"'{first.text}' is here", is_further=True)

@@ -8,7 +8,7 @@ from typing import Dict, List, NamedTuple, Optional, Tuple
 from front import gnu, messages
 from front.files import File
 from front.gnu import Source
-from front.judging import ACCEPTED, CARRIED, NOT_JUDGED, UNKNOWN, VIOLATED, Verdict
+from front.judging import ACCEPTED, MAPPED, NOT_JUDGED, UNKNOWN, VIOLATED, Verdict
 from front.messages import Severity
 
 
@@ -62,8 +62,8 @@ def code_answer(file, verdicts, options):
     rows = [(verdict, message) for verdict in verdicts
             for message in messages.messages(verdict, messages.Texts(verdict, further), options.verbose)]
     locations = [(verdict.function.section.index, *message.line_of) for verdict, message in rows]
-    locations += [(verdict.function.section.index, verdict.function.offset(position[0]), position[1]) for verdict in verdicts
-                  for violation in verdict.violations for position in violation[2:]] if options.format != "lines" else []
+    locations += [(verdict.function.section.index, verdict.function.offset(place[0]), place[1]) for verdict in verdicts
+                  for violation in verdict.violations for place in violation[2:]] if options.format != "lines" else []
     lines = source_lines(file, list(dict.fromkeys(locations)))
     findings = [Finding(message.severity, lines.get((verdict.function.section.index, *message.line_of)),
                         f"{file.label}({verdict.function.section.name}{message.offset:+#x})", verdict.function.name,
@@ -95,7 +95,7 @@ class Counts:
         for verdict in answer.verdicts:
             self.verdicts[verdict.word] += 1
             self.stood_in += verdict.word != NOT_JUDGED and bool(verdict.stood_in)
-            self.unlooked += verdict.word != NOT_JUDGED and any(what.startswith(CARRIED) for what in verdict.unlooked)
+            self.unlooked += verdict.word != NOT_JUDGED and any(what.startswith(MAPPED) for what in verdict.unlooked)
             if verdict.word == NOT_JUDGED:
                 self.reasons[self.reason(verdict, answer)] += 1
 

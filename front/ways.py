@@ -26,11 +26,11 @@ def ways(ask, code, broken):
     """Of each pair the branches without which predicates excuse it, each with its target. `ask` answers on bundles, behind
     which it sets an end bundle, what a check of them answers; `broken` is what it answers on these."""
     bundles, found = split_all(code), {}
-    positions = branch_positions(bundles)
-    if (not 0 < len(broken) <= MOST_VIOLATIONS or len(positions) > MOST_BRANCHES or len(bundles) > MOST_BUNDLES
-            or len(positions) * len(bundles) > WORK):
+    places = branch_positions(bundles)
+    if (not 0 < len(broken) <= MOST_VIOLATIONS or len(places) > MOST_BRANCHES or len(bundles) > MOST_BUNDLES
+            or len(places) * len(bundles) > WORK):
         return found
-    for (index, slot), away in positions:
+    for (index, slot), away in places:
         turned = with_branch(bundles[index], slot, len(bundles) - index).packed()
         changed = code[:16 * index] + turned + code[16 * index + 16:]
         gone = set(broken) - set(violations(ask(changed)))
@@ -41,8 +41,8 @@ def ways(ask, code, broken):
 
 def said(found, name):
     """What is said of the branches of a pair behind it: nothing, or their places by their names."""
-    ways_of = [f"{'the way back from' if target <= position[0] else 'the branch at'} {name(position)}"
-               for position, target in found]
+    ways_of = [f"{'the way back from' if target <= place[0] else 'the branch at'} {name(place)}"
+               for place, target in found]
     return f"; only by {' and '.join(ways_of)}" if ways_of else ""
 
 

@@ -4,8 +4,8 @@
 - `linking`: the object files, linked by GNU's linker at the addresses of an image; what is missing in them; their symbols.
 - `image`: the code and the data cut out into one image, behind a caller; what of it the program doesn't take.
 - `ends`: how a run ended, by its printed state, and what data it changed.
-- `origins`: whether an address was made of the thread pointer.
-- `answer`: what is said of it, as lines and as JSON; `followed`: the run group by group.
+- `thread_pointer`: whether an address was made of the thread pointer.
+- `answer`: what is said of it, as lines and as JSON; `call_trace`: the run group by group.
 - `command`: the words, and the call as a whole.
 
 What is proved (docs/trust/claims.md): that the program's answer on the image is that of its run slot by slot, and that every order of

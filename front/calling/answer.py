@@ -6,7 +6,7 @@ from typing import Dict, List, Optional, Tuple
 
 from front import gnu, usage
 from front.bundle import branches
-from front.calling import origins
+from front.calling import thread_pointer
 from front.calling.ends import Change, End, State, changes, slot_text, trimmed
 from front.calling.hints import is_hint
 from front.calling.image import IN_RESULTS, Stop
@@ -65,46 +65,46 @@ class Teller:
         state = State(text, len(self.made.data))
         if state.is_limit:
             more = "" if limit == usage.GROUP_LIMIT else f"; -n N lets more run, up to {usage.GROUP_LIMIT:,}"
-            answer = self.at(End.LIMIT, state.position, f"{limit:,} groups ran without an end{more}")
+            answer = self.at(End.LIMIT, state.place, f"{limit:,} groups ran without an end{more}")
         elif state.fault:
-            answer = self.at(End.FAULT, state.position, self.fault(state, in_orders))
-        elif state.position[0] == self.made.back:
+            answer = self.at(End.FAULT, state.place, self.fault(state, in_orders))
+        elif state.place[0] == self.made.back:
             answer = Answer(End.RETURNED)
             count = -(-structure // 8) if 0 < structure <= IN_RESULTS else 1
             answer.results = [(f"ret{number}", state.register(f"r{8 + number}")) for number in range(count)]
-        elif state.position in self.made.stops:
+        elif state.place in self.made.stops:
             answer = self.stop(state)
         else:
             meant = f", {BREAKS[state.number]} by convention" if state.number in BREAKS else ""
-            answer = self.at(End.BREAK, state.position, f"'{self.text(state.position)}' of the code itself{meant}")
+            answer = self.at(End.BREAK, state.place, f"'{self.text(state.place)}' of the code itself{meant}")
         answer.groups, answer.data = state.groups, state.data
         if answer.end is not End.OUTSIDE:
             answer.changes = changes(self.made, state.data, self.names)
         return answer
 
-    def at(self, end, position, said):
-        return Answer(end, place=self.names.code(position[0]), source=self.source(position), said=[said])
+    def at(self, end, place, said):
+        return Answer(end, place=self.names.code(place[0]), source=self.source(place), said=[said])
 
     def stop(self, state):
         """What is said of a break that was put in."""
-        stopped = self.made.stops[state.position]
+        stopped = self.made.stops[state.place]
         if stopped.why is Stop.MISSING:
             return self.missing(state, stopped.name)
         if not stopped.bundle.units:
             said = f"the reserved template {stopped.bundle.template:#04x} is outside the profile"
-            return self.at(End.OUTSIDE, state.position, said)
-        text = self.text(state.position)
+            return self.at(End.OUTSIDE, state.place, said)
+        text = self.text(state.place)
         if stopped.why is Stop.ASTRAY:
-            return self.at(End.ASTRAY, state.position, f"'{text}' leads out of the code")
-        more = "; --skip-hints leaves such hints out" if is_hint(stopped.bundle, state.position[1]) else ""
-        return self.at(End.OUTSIDE, state.position, f"'{text}' is outside the profile{more}")
+            return self.at(End.ASTRAY, state.place, f"'{text}' leads out of the code")
+        more = "; --skip-hints leaves such hints out" if is_hint(stopped.bundle, state.place[1]) else ""
+        return self.at(End.OUTSIDE, state.place, f"'{text}' is outside the profile{more}")
 
     def missing(self, state, name):
         """A call of what isn't there, with the slot that made it where the return address tells it."""
         index = ((state.register("b0") or 0) - CODE_AT) // 16 - 1
         bundles = self.made.bundles
         calls = [turn for turn in turns_of(index, bundles[index]) if turn.calls] if 0 <= index < len(bundles) else []
-        call = next((turn for turn in calls if turn.target in (None, state.position[0])), None)
+        call = next((turn for turn in calls if turn.target in (None, state.place[0])), None)
         if call is None:
             return Answer(End.MISSING, place=printable(name), said=[f"a branch to {said_name(name)}, which isn't there"])
         answer = self.at(End.MISSING, (index, call.slot), f"a call of {said_name(name)}, which isn't there")
@@ -113,8 +113,8 @@ class Teller:
 
     def fault(self, state, in_orders):
         """What is said of a fault: the instruction, and the address that it was about where that is known."""
-        said = f"fault {state.fault}: '{self.text(state.position)}'"
-        bundle, slot = self.made.bundles[state.position[0]], state.position[1]
+        said = f"fault {state.fault}: '{self.text(state.place)}'"
+        bundle, slot = self.made.bundles[state.place[0]], state.place[1]
         unit, word = bundle.units[slot], bundle.words[slot]
         if in_orders or state.is_rotated:
             return said
@@ -131,7 +131,7 @@ class Teller:
         where = self.names.said_address(value)
         if value in self.linked.missing:
             where = f"the place of {said_name(self.linked.missing[value])}, which isn't there"
-        elif where is None and state.fault == "BadAddress" and self.is_of_thread(name, state.position):
+        elif where is None and state.fault == "BadAddress" and self.is_of_thread(name, state.place):
             where = "thread-local data, which aren't there"
         elif where is None and value < NULL_PAGE and state.fault == "BadAddress":
             where = "perhaps a null pointer with an offset" if value else "a null pointer"
@@ -141,11 +141,11 @@ class Teller:
             where = "below the stack, which may be too small (--stack)"
         return f", and {name} is {value:#x}" + (f", {where}" if where else "")
 
-    def is_of_thread(self, name, position):
+    def is_of_thread(self, name, place):
         """Whether the address in a register that a slot uses was made of the thread pointer."""
-        symbol = self.linked.symbol_at(CODE_AT + 16 * position[0], True)
-        first = (symbol.address - CODE_AT) // 16 if symbol else position[0]
-        return origins.is_of_thread(self.made.bundles, first, position, int(name[1:]))
+        symbol = self.linked.symbol_at(CODE_AT + 16 * place[0], True)
+        first = (symbol.address - CODE_AT) // 16 if symbol else place[0]
+        return thread_pointer.is_of_thread(self.made.bundles, first, place, int(name[1:]))
 
     # ---- Violations
 
@@ -156,44 +156,44 @@ class Teller:
         answer = Answer(End.VIOLATED, total=total)
         sources = self.sources([row.second for row in broken])
         for row in broken:
-            first, second = (f"'{self.listed(position, rows)}' ({self.names.code(position[0])} slot {position[1]})"
-                             for position in (row.first, row.second))
+            first, second = (f"'{self.listed(place, rows)}' ({self.names.code(place[0])} slot {place[1]})"
+                             for place in (row.first, row.second))
             answer.violations.append({"rule": row.rule, "resource": row.resource, "place": self.names.code(row.second[0]),
                                       "source": sources.get(row.second), "text": said_clash(row, first, second)})
         return answer
 
-    def listed(self, position, rows):
+    def listed(self, place, rows):
         """The text of a slot as the image has it, or of what stood there."""
-        if position in self.made.stops or isinstance(rows, Refusal):
-            return self.text(position)
-        text, targets = rows[position[0]][position[1]], dict(branches(self.made.bundles[position[0]]))
-        if position[1] not in targets:
+        if place in self.made.stops or isinstance(rows, Refusal):
+            return self.text(place)
+        text, targets = rows[place[0]][place[1]], dict(branches(self.made.bundles[place[0]]))
+        if place[1] not in targets:
             return text
-        return text[:text.rindex("L")] + self.names.target(position[0] + targets[position[1]])
+        return text[:text.rindex("L")] + self.names.target(place[0] + targets[place[1]])
 
     # ---- Positions
 
-    def text(self, position):
+    def text(self, place):
         """The text of what stands, or stood, in a slot."""
-        stopped = self.made.stops.get(position)
-        bundle = stopped.bundle if stopped else self.made.bundles[position[0]]
-        return slot_text(self.program, bundle, position[1], lambda away: self.target(position[0] + away))
+        stopped = self.made.stops.get(place)
+        bundle = stopped.bundle if stopped else self.made.bundles[place[0]]
+        return slot_text(self.program, bundle, place[1], lambda away: self.target(place[0] + away))
 
     def target(self, bundle):
         return self.names.target(bundle) if 0 <= bundle < MOST_BUNDLES else f"{CODE_AT + 16 * bundle:#x}"
 
-    def source(self, position):
-        return self.sources([position]).get(position)
+    def source(self, place):
+        return self.sources([place]).get(place)
 
-    def sources(self, positions):
+    def sources(self, places):
         """The lines of the sources of slots, where they are known."""
         wanted = {}
-        for bundle, slot in positions:
-            at = self.linked.elf.addresses.place(CODE_AT + 16 * bundle)
+        for bundle, slot in places:
+            at = self.linked.elf.addresses.location(CODE_AT + 16 * bundle)
             if at is not None:
                 wanted[bundle, slot] = (*at, slot)
         found = gnu.source_lines(self.linked.data, self.linked.elf, list(wanted.values()))
-        return {position: found[at] for position, at in wanted.items() if at in found}
+        return {place: found[at] for place, at in wanted.items() if at in found}
 
 
 def said_name(name):

@@ -9,7 +9,7 @@ from front.calling import answer as answers
 from front.calling import image, linking
 from front.calling.arguments import FORMS, arguments_of
 from front.calling.ends import Names
-from front.calling.followed import Followed
+from front.calling.call_trace import CallTrace
 from front.checking import WRONG, complain
 from front.content import write_file
 from front.faults import Fault, ProgramFault, printable
@@ -98,12 +98,12 @@ def answer_of(options, program, arguments):
         write_file(options.image, made.image())
     teller = answers.Teller(program, linked, made, names)
     found = answered(teller, options, status, printed)
-    followed = Followed(program, teller, min(options.trace, options.limit)) if options.trace and found.groups else None
+    trace = CallTrace(program, teller, min(options.trace, options.limit)) if options.trace and found.groups else None
     if options.format == "json":
-        print(answers.document(found, names, printable(options.file), options.function, followed and followed.rows(),
+        print(answers.document(found, names, printable(options.file), options.function, trace and trace.rows(),
                                options.groups is None))
     else:
-        print(*(followed.lines() if followed else ()), *answers.Lines(names, arguments, options.all).of(found), sep="\n")
+        print(*(trace.lines() if trace else ()), *answers.Lines(names, arguments, options.all).of(found), sep="\n")
     return found.status
 
 

@@ -38,7 +38,7 @@ class State:
         if not found:
             raise ProgramFault(f"a run answered what isn't known here: {text[:100]!r}")
         self.is_limit, self.number, self.fault = found[1] == "limit", int(found[2] or "0", 16), found[3]
-        self.position = int(found[4]), int(found[5])
+        self.place = int(found[4]), int(found[5])
         self.groups, self.frame = int(rows["groups"]), [int(word) for word in rows["frame"].split() if word.isdigit()]
         self.registers, self.nats, data = {}, set(), bytearray(size)
         for name, value in rows.items():

@@ -15,7 +15,7 @@ from pathlib import Path
 from typing import NamedTuple, Optional
 
 from front import archive, elf, gnu
-from front.code import Rank
+from front.code_file import Rank
 from front.content import read_file
 from front.faults import Fault, printable
 from front.files import Kind, is_source, kind_of

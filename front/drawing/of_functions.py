@@ -89,7 +89,7 @@ def labels_of(file, function):
     """The names of symbols in a function, by bundles."""
     found = {}
     for symbol in file.code.symbols():
-        section, offset = symbol.place
+        section, offset = symbol.location
         if section == function.section.index and function.start <= offset < function.end and symbol.name:
             names = found.setdefault((offset - function.start) // 16, [])
             if symbol.name not in names:

@@ -5,7 +5,7 @@ from typing import NamedTuple, Tuple
 
 from front.files import Kind
 from front.messages import counted
-from front.ordering.asking import LIMIT, Answers
+from front.ordering.answers import LIMIT, Answers
 from front.tracing import lines
 from front.tracing.code import Code
 from front.tracing.steps import GROUP, groups_of_a_piece, steps

@@ -41,10 +41,10 @@ def left_by(runs):
     return f"{count} states" if count > 1 else "one state, " + next(iter(runs.states)).split("\n")[0]
 
 
-def said_beside(runs):
+def said_slot_by_slot(runs):
     """What the first line has of slot by slot, of a program that isn't accepted."""
-    if runs.beside.lines is None:
-        return f". Slot by slot isn't shown: {runs.beside.why}"
+    if runs.slot_by_slot.lines is None:
+        return f". Slot by slot isn't shown: {runs.slot_by_slot.why}"
     if is_another(runs):
         return ", and slot by slot another one"
     return f", and slot by slot state {same_as(runs)}" if len(runs.states) > 1 else ", and so does slot by slot"
@@ -55,7 +55,7 @@ def first_line(runs):
     orders = counted(sum(map(len, runs.states.values())), "order")
     if runs.verdict == "accepted":
         return f"accepted: run and {orders} leave {left_by(runs)}"
-    return f"{runs.verdict}: {orders} {'leaves' if orders == '1 order' else 'leave'} {left_by(runs)}{said_beside(runs)}"
+    return f"{runs.verdict}: {orders} {'leaves' if orders == '1 order' else 'leave'} {left_by(runs)}{said_slot_by_slot(runs)}"
 
 
 def leaving(head, orders, beside):
@@ -85,9 +85,9 @@ def report(runs, most):
         return
     same, heads, states = same_as(runs), heads_of(runs), list(map(lines_of, runs.states))
     for number, (head, orders) in enumerate(zip(heads, runs.states.values()), 1):
-        yield from leaving(head, orders, runs.beside.name * (number == same))
+        yield from leaving(head, orders, runs.slot_by_slot.name * (number == same))
     if is_another(runs):
-        heads, states = [*heads, runs.beside.name], [*states, runs.beside.lines]
+        heads, states = [*heads, runs.slot_by_slot.name], [*states, runs.slot_by_slot.lines]
     yield from tables(heads, states, most)
 
 
@@ -144,11 +144,11 @@ def state_line(head, runs, orders, is_named):
                    + " .." * (len(numbers) > NUMBERS))
 
 
-def line_beside(runs):
+def line_slot_by_slot(runs):
     """The line on slot by slot."""
-    name = "slot by slot (run)" if runs.beside.name == "run" else "slot by slot, which the hardware needn't do"
-    if runs.beside.lines is None:
-        return f"slot by slot isn't shown: {runs.beside.why}"
+    name = "slot by slot (run)" if runs.slot_by_slot.name == "run" else "slot by slot, which the hardware needn't do"
+    if runs.slot_by_slot.lines is None:
+        return f"slot by slot isn't shown: {runs.slot_by_slot.why}"
     if not is_another(runs):
         return f"{name}: state {same_as(runs)}"
     return f"{name}: a state that {'no order' if runs.is_complete() else 'none of these orders'} leaves"
@@ -165,9 +165,9 @@ def report_group(runs, most, is_named):
         numbers = ", ".join(str(number_of(order)) for order in runs.not_shown[:NUMBERS])
         yield from wrapped("not shown", f"{counted(len(runs.not_shown), 'order')} by which groups before this one leave another "
                            f"state; K {numbers}" + " .." * (len(runs.not_shown) > NUMBERS))
-    yield line_beside(runs)
+    yield line_slot_by_slot(runs)
     if is_another(runs):
-        heads, states = [*heads, runs.beside.name], [*states, runs.beside.lines]
+        heads, states = [*heads, runs.slot_by_slot.name], [*states, runs.slot_by_slot.lines]
     ends = {state["end"] for state in states}
     before = {**runs.before, "groups": states[0]["groups"], "end": states[0]["end"] if len(ends) == 1 else ""}
     if differing([before, *states]):

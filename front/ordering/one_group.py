@@ -20,8 +20,8 @@ from front.bundle import split_all
 from front.faults import Fault
 from front.files import IMAGES
 from front.ordering import writes
-from front.ordering.asking import Answers
-from front.ordering.beside import Beside, beside_group
+from front.ordering.answers import Answers
+from front.ordering.slot_by_slot import SlotBySlot, through_group
 from front.ordering.states import ZERO, State, lines_of
 from front.usage import NUMBER_LIMIT
 
@@ -39,7 +39,7 @@ class Runs(NamedTuple):
     before: Dict[str, str]
     states: Dict[str, List[tuple]]
     not_shown: List[tuple]
-    beside: Beside
+    slot_by_slot: SlotBySlot
 
     def count(self):
         return sum(map(len, self.states.values()))
@@ -123,7 +123,7 @@ def run_all(program, data, number, wanted, count, seed):
         if state is not None:
             states.setdefault(state, []).append(order)
     return Runs(asked.verdict, number, asked.group, asked.writes, lines_of(asked.before), states,
-                [order for order, state in zip(orders, left) if state is None], beside_group(asked, is_apart))
+                [order for order, state in zip(orders, left) if state is None], through_group(asked, is_apart))
 
 
 def each_of(ask, orders):

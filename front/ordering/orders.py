@@ -3,7 +3,7 @@
 A program, a text or an image, whatever `ia64 check` says of it, is run by `ia64 groups N K`, each group all at once and its
 writes in the order with the number K, for several K: 0, which is program order, to 5, among which are all orders of up to three
 writes; the number whose order is the reverse of program order in each group of up to twenty writes; and a few random ones.
-Slot by slot stands beside them (`beside.py`).
+Slot by slot stands beside them (`slot_by_slot.py`).
 
 That all are the same says nothing of other orders and of other start states: `ia64 check` does.
 """
@@ -12,8 +12,8 @@ import math
 import random
 from typing import Dict, List, NamedTuple
 
-from front.ordering.asking import VIOLATED, Answers
-from front.ordering.beside import Beside, beside_all
+from front.ordering.answers import VIOLATED, Answers
+from front.ordering.slot_by_slot import SlotBySlot, whole_run
 from front.ordering.states import lines_of
 
 # The statuses of a comparison.
@@ -29,7 +29,7 @@ class Runs(NamedTuple):
     state slot by slot."""
     verdict: str
     states: Dict[str, List[int]]
-    beside: Beside
+    slot_by_slot: SlotBySlot
 
 
 def run_all(program, groups, orders, data):
@@ -42,8 +42,8 @@ def run_all(program, groups, orders, data):
         state = answers.of(["groups", str(groups), str(order)], data)[1]
         states.setdefault(state, []).append(order)
     if violated:
-        return Runs(printed.split("\n")[0], states, beside_all(answers, data, groups, next(iter(states))))
-    return Runs("accepted", states, Beside("run", lines_of(printed)))
+        return Runs(printed.split("\n")[0], states, whole_run(answers, data, groups, next(iter(states))))
+    return Runs("accepted", states, SlotBySlot("run", lines_of(printed)))
 
 
 def orders_of(first, count, seed):
@@ -57,11 +57,11 @@ def orders_of(first, count, seed):
 
 def same_as(runs):
     """The number of the state that slot by slot leaves too, from 1; 0 where it is another one or isn't shown."""
-    return next((number for number, state in enumerate(runs.states, 1) if runs.beside.is_same(state)), 0)
+    return next((number for number, state in enumerate(runs.states, 1) if runs.slot_by_slot.is_same(state)), 0)
 
 
 def is_another(runs):
-    return runs.beside.lines is not None and not same_as(runs)
+    return runs.slot_by_slot.lines is not None and not same_as(runs)
 
 
 def status_of(runs):

@@ -16,7 +16,7 @@ bundles are those that the proved program makes of a text (`text`), and what sta
   differences, and where it has a number for one it tells none.
 - What is loaded is told by a section's flags, and by names that the assembler knows.
 - Relations (`.pred.rel`) are left out, as the assembler leaves them out of an object file.
-- An instruction outside the profile is that of a row of the table of stand-ins (`outside`), by its mnemonic and its operands.
+- An instruction outside the profile is that of a row of the table of stand-ins (`outside_profile`), by its mnemonic and its operands.
 
 `Unread` says of the other sources what can't be read. Those are sources with system registers and what else no row has by its
 name and operands, code that the assembler packs by itself, macros, conditions, other expressions with labels of code, and

@@ -1,7 +1,7 @@
 """The code of a source, as an object file of it would have it: sections, symbols, and what points into code."""
 
 from front.bundle import split
-from front.code import CodeFile, Rank, Relocation, Section, Symbol
+from front.code_file import CodeFile, Rank, Relocation, Section, Symbol
 from front.sources.text import STRETCH
 
 # Where the bundles of an image begin that has no entries.
@@ -28,28 +28,28 @@ class SourceCode(CodeFile):
         program, reader = self.program, self.program.reader
         for name, (function, _) in program.symbols.items():
             is_function, is_sized = reader.taken.get(name, (function in reader.functions, True))
-            place, is_function = program.place(name), is_function or name in reader.functions
+            location, is_function = program.location(name), is_function or name in reader.functions
             rank = reader.ranks.get(function if name in reader.versions else name, Rank.LOCAL)
-            if place and (is_function or rank is not Rank.LOCAL):
-                yield Symbol(name, rank, place, self.size(name, function if is_sized else name), is_function)
+            if location and (is_function or rank is not Rank.LOCAL):
+                yield Symbol(name, rank, location, self.size(name, function if is_sized else name), is_function)
 
     def size(self, name, function):
         """The size of a function that was given one or whose end is known, or 0."""
         for given in (name, function):
             if self.program.sizes.get(given) is not None:
                 return self.program.sizes[given]
-        end, place = self.program.ends.get(function), self.program.place(function)
-        return end[1] - place[1] if end and end[0] == place[0] and end[1] > place[1] else 0
+        end, location = self.program.ends.get(function), self.program.location(function)
+        return end[1] - location[1] if end and end[0] == location[0] and end[1] > location[1] else 0
 
     def relocations(self):
         """Those of all branches, and of the names that are named elsewhere."""
         for section, number, bundle in self.program.numbered():
             for slot, instruction in bundle.slots.items():
                 if instruction.target:
-                    place = self.program.place(instruction.target)
-                    yield Relocation((section, 16 * number + slot), True, place, instruction.target.split(":")[0])
-        for place, name in self.program.referred:
-            yield Relocation(place, False, place, name)
+                    location = self.program.location(instruction.target)
+                    yield Relocation((section, 16 * number + slot), True, location, instruction.target.split(":")[0])
+        for location, name in self.program.referred:
+            yield Relocation(location, False, location, name)
 
     def texts(self, function):
         """The texts of a function's slots outside the profile."""
@@ -58,10 +58,10 @@ class SourceCode(CodeFile):
         return {(index, slot): instruction.text for index, bundle in enumerate(bundles)
                 for slot, instruction in bundle.slots.items() if instruction.word is not None}
 
-    def line(self, place):
+    def line(self, location):
         """The line at which a slot stands. A `nop` that was added has that of the slot before it in its bundle, or of the next
         one; what fills the room up to an alignment has none."""
-        section, offset, slot = place
+        section, offset, slot = location
         bundles = self.program.codes[section].bundles
         slots = bundles[offset // 16].slots if offset // 16 < len(bundles) else {}
         before = [at for at in slots if at <= slot]

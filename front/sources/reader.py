@@ -3,15 +3,15 @@
 import re
 from typing import NamedTuple, Optional, Tuple
 
-from front.code import Rank
+from front.code_file import Rank
 from front.faults import Unread
 from front.sources.forms import rewritten
 from front.sources.instructions import (FOLLOWED, OUTSIDE_TARGETED, PRECEDED, Alignment, Instruction, TARGETED, TEMPLATES,
                                         kind_of)
 from front.sources.operands import (LINKED, MOST_IN_FRAME, NAME, OTHER_REGISTERS, REGISTERS, SPELLED,
                                     Named, is_branch_register, is_name, number_of, parted, sum_of, tokens_of, value_of)
-from front.sources.outside import NUMBERED, outside, outside_register
-from front.sources.shown import shown
+from front.sources.outside_profile import NUMBERED, outside, outside_register
+from front.sources.quoting import excerpt
 
 # What may stand in front of a statement: a label, a tag, a bundle's selector.
 FRONT = re.compile(rf"\s*(?:\.(?P<select>{'|'.join(TEMPLATES)})(?![\w.$:#])|(?P<label>{NAME})#?\s*:|(?P<local>\d{{1,9}})\s*:"
@@ -185,7 +185,7 @@ class Reader:
         guard = GUARD.match(said)
         word = WORD.match(said, guard.end() if guard else 0)
         if not word:
-            self.fail(f"'{shown(said)}' isn't known here", False)
+            self.fail(f"'{excerpt(said)}' isn't known here", False)
         rest, mnemonic = said[word.end():], word[1].lower()
         if guard or mnemonic[0] != "." and mnemonic not in ADDRESSES and mnemonic not in OTHER_DATA:
             self.instruction(guard[1] if guard else "", mnemonic, rest)
@@ -196,7 +196,7 @@ class Reader:
 
     def define(self, name):
         if name in self.defined or name in self.numbers or name in self.same:
-            self.fail(f"'{shown(name)}' stands there twice")
+            self.fail(f"'{excerpt(name)}' stands there twice")
         self.defined[name] = self.line
 
     def label(self, name):
@@ -226,19 +226,19 @@ class Reader:
     def assign(self, name, said):
         """A name that gets a number, or is another name for something."""
         if name in self.defined or name in self.numbers or name in self.same:
-            self.fail(f"'{shown(name)}' gets a value twice")
+            self.fail(f"'{excerpt(name)}' gets a value twice")
         tokens = tokens_of(said, self.line)
         value = sum_of(tokens, self.named)
         names = [other for other, count in value.counts.items() if count] if value else []
         if value and len(names) == 1 and value.counts[names[0]] == 1 and names[0] != ".":
             if self.code and self.code.waiting() and any(names[0] == label for label, _ in self.code.labels):
-                self.fail(f"'{shown(name)}' gets the place of a label before the bundle in front of that is ended")
+                self.fail(f"'{excerpt(name)}' gets the place of a label before the bundle in front of that is ended")
             self.same[name] = (names[0], value.number)
             if value.number or names[0] in self.defined or names[0] in self.taken:
                 self.taken[name] = self.known_of(names[0])
             return
         if name in self.used:
-            self.fail(f"'{shown(name)}' gets a value after it was used")
+            self.fail(f"'{excerpt(name)}' gets a value after it was used")
         self.numbers[name] = value.number if value and not names else None
         if self.numbers[name] is None:
             self.parts[name] = tuple(other for other in self.names_in(tokens) if other != "." or self.code)
@@ -276,7 +276,7 @@ class Reader:
         for token in tokens:
             number = self.numbers.get(token.rstrip("#"), token)
             if number is None:
-                self.fail(f"'{shown(token)}' has a value that isn't known here")
+                self.fail(f"'{excerpt(token)}' has a value that isn't known here")
             settled += [token] if number is token else ["(", "-", str(-number), ")"] if number < 0 else [str(number)]
         return settled
 
@@ -291,23 +291,23 @@ class Reader:
         elif word[1:] in OTHER_SECTIONS:
             self.turn(word)
         elif word not in DROPPED:
-            self.fail(f"the directive '{shown(word)}' isn't known here")
+            self.fail(f"the directive '{excerpt(word)}' isn't known here")
 
     def data(self, word, rest):
         is_elsewhere = word.startswith(".x")
         if self.code and not is_elsewhere:
-            self.fail(f"'{shown(word)}' in a section of code")
+            self.fail(f"'{excerpt(word)}' in a section of code")
         section = self.section
         if is_elsewhere:
             section, _, rest = rest.partition(",")
             section = section.strip().strip('"')
             if self.is_of_code(section):
-                self.fail(f"'{shown(word)}' for a section of code")
+                self.fail(f"'{excerpt(word)}' for a section of code")
         if word in ADDRESSES and self.is_loaded(section):
             for tokens in parted(tokens_of(rest, self.line), ","):
                 for token in tokens:
                     if token[0].isdigit() and not NUMBER.fullmatch(token) and not LOCAL.fullmatch(token):
-                        self.fail(f"'{shown(token)}' as a number")
+                        self.fail(f"'{excerpt(token)}' as a number")
                 self.refer(tokens)
 
     def select(self, name):
@@ -326,7 +326,7 @@ class Reader:
         self.kinds.setdefault(name, flags or "")
         known, self.kinds[name] = self.kinds[name], flags or self.kinds[name]
         if before and before != (self.is_of_code(name), self.is_loaded(name)):
-            self.fail(f"the section '{shown(name)}' with other flags than before")
+            self.fail(f"the section '{excerpt(name)}' with other flags than before")
         self.kinds[name] = known
         self.previous, self.section = self.section, name
         self.settle_section()
@@ -482,7 +482,7 @@ class Reader:
         """An instruction in the program's own form, or one outside the profile."""
         kind, sides = kind_of(mnemonic), parted(tokens_of(rest, self.line), "=") if rest else [[]]
         if len(sides) > 2:
-            self.fail(f"'{shown(rest)}'")
+            self.fail(f"'{excerpt(rest)}'")
         lists = [parted(side, ",") if side else [] for side in sides]
         left, right = lists if len(lists) == 2 else ([], lists[0])
         if kind is None or any(token not in REGISTERS and outside_register(token) for side in sides for token in side):
@@ -490,7 +490,7 @@ class Reader:
             if found:
                 return found
             if kind is None:
-                self.fail(f"'{shown(mnemonic)}' is outside the profile, or unknown", False)
+                self.fail(f"'{excerpt(mnemonic)}' is outside the profile, or unknown", False)
         made = Instruction(self.line, kind, mnemonic, "")
         if mnemonic == "alloc":
             self.set_frame([self.constant(self.settled(part)) for part in right[-4:]][:3])
@@ -575,7 +575,7 @@ class Reader:
         if not names and not any(token[0] == "@" and token != "@pause" for token in tokens):
             return str(self.constant(["0" if token == "@pause" else token for token in tokens]))
         if "." in names or "[" in tokens:
-            self.fail(f"'{shown(spelled)}' in an operand")
+            self.fail(f"'{excerpt(spelled)}' in an operand")
         self.used |= names
         self.refer(tokens)
         return LINKED
@@ -585,7 +585,7 @@ class Reader:
         try:
             return value_of(tokens)
         except ValueError as none:
-            return self.fail(shown(str(none)))
+            return self.fail(excerpt(str(none)))
 
 
 HANDLERS = {

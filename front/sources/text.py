@@ -3,7 +3,7 @@
 import re
 from typing import List, NamedTuple, Optional
 
-from front.code import Place
+from front.code_file import Location
 from front.faults import Unread
 from front.functions import MOST_BUNDLES
 from front.program import END_LINES
@@ -11,7 +11,7 @@ from front.sources.bundles import Bundle, laid_out, last_slot
 from front.sources.instructions import Alignment
 from front.sources.operands import Named
 from front.sources.reader import Reference
-from front.sources.shown import shown
+from front.sources.quoting import excerpt
 from front.refusals import explained
 
 # The text has an end, a `break`, behind so many bundles, since the program takes no more than 64 without a stop, whatever a
@@ -34,9 +34,9 @@ class Program:
     def __init__(self, reader):
         self.reader, self.line = reader, max(reader.line, 1)
         self.codes: List[Code] = []
-        self.places = {}               # of names of bundles
+        self.locations = {}               # of names of bundles
         self.inside = {}               # of names of slots inside bundles
-        self.ends = {}                 # of functions by their names, where one is known: a place
+        self.ends = {}                 # of functions by their names, where one is known: a location
         for name, code in reader.codes.items():
             if code.items:
                 self.lay_out(name, code)
@@ -57,12 +57,12 @@ class Program:
             raise Unread(code.items[-1].line, f"more than {MOST:,} bundles")
         for number, bundle in enumerate(bundles):
             for count, (slot, instruction) in enumerate(bundle.slots.items()):
-                places, at = (self.inside, 16 * number + slot) if count else (self.places, 16 * number)
-                places.update((name, (index, at)) for name, _ in instruction.labels)
+                locations, at = (self.inside, 16 * number + slot) if count else (self.locations, 16 * number)
+                locations.update((name, (index, at)) for name, _ in instruction.labels)
         for number, item in enumerate(code.items):
             if isinstance(item, Alignment):
-                self.places.update((name, (index, 16 * before[number])) for name, _ in item.labels)
-        self.places.update((name, (index, 16 * len(bundles))) for name, _ in code.labels)
+                self.locations.update((name, (index, 16 * before[number])) for name, _ in item.labels)
+        self.locations.update((name, (index, 16 * len(bundles))) for name, _ in code.labels)
         for ends in (self.reader.functions, self.reader.sizes):
             self.ends.update((function, (index, 16 * before[end[1]])) for function, end in ends.items() if end and end[0] == name)
         self.codes.append(Code(name, bundles))
@@ -75,24 +75,24 @@ class Program:
             name, further = same[name]
             number += further
         if name in same:
-            raise Unread(self.line, f"'{shown(path[0][0])}' is another name for itself")
+            raise Unread(self.line, f"'{excerpt(path[0][0])}' is another name for itself")
         for other, before in path:
             same[other] = (name, number - before)
         return name, number
 
-    def place(self, name, is_slot=False) -> Optional[Place]:
-        """The place that a name names, by whatever other name it was assigned, or None; of a slot inside a bundle only if that
+    def location(self, name, is_slot=False) -> Optional[Location]:
+        """The location that a name names, by whatever other name it was assigned, or None; of a slot inside a bundle only if that
         is wanted."""
         name, number = self.own_name(name)
-        place = self.places.get(name) or is_slot and self.inside.get(name)
-        return (place[0], place[1] + number) if place else None
+        location = self.locations.get(name) or is_slot and self.inside.get(name)
+        return (location[0], location[1] + number) if location else None
 
     def is_code(self, name):
         """Whether a name names code, or something that isn't known and is made of a name of code."""
         names, seen = [name], set()
         while names:
             name, _ = self.own_name(names.pop())
-            if name == "." or name in self.places or name in self.inside:
+            if name == "." or name in self.locations or name in self.inside:
                 return True
             names += [part for part in self.reader.parts.get(name, ()) if part not in seen]
             seen.update(self.reader.parts.get(name, ()))
@@ -108,7 +108,7 @@ class Program:
         return found
 
     def meant(self, reference):
-        """What a reference names, its place and its name, or None where that isn't code. A difference of two names names the
+        """What a reference names, its location and its name, or None where that isn't code. A difference of two names names the
         first one."""
         lost = [name for name in reference.names if ":" in name and name not in self.reader.defined]
         if lost:
@@ -121,19 +121,19 @@ class Program:
         if is_known and not up and down:
             return None
         if not is_known or len(up) != 1 or len(down) > bool(value.number == 0):
-            raise Unread(reference.line, f"'{shown(reference.said)}', which names code")
-        place = self.place(up[0], True)
-        return ((place[0], place[1] + value.number), up[0].split(":")[0]) if place else None
+            raise Unread(reference.line, f"'{excerpt(reference.said)}', which names code")
+        location = self.location(up[0], True)
+        return ((location[0], location[1] + value.number), up[0].split(":")[0]) if location else None
 
     def size(self, name, said):
         """The size that a function was given, a number or the distance of two labels, or None for what is none."""
-        if not self.place(name):
+        if not self.location(name):
             return None
         value = self.settled(said.value) if said.value else Named(0, {".": 1})
-        places = [self.place(label) if abs(count) == 1 else None for label, count in value.counts.items() if count]
-        if None in places or sum(value.counts.values()) or len({place[0] for place in places}) > 1:
-            raise Unread(said.line, f"'{shown(said.said)}' as the size of '{shown(name)}'")
-        return value.number + sum(count * self.place(label)[1] for label, count in value.counts.items() if count)
+        locations = [self.location(label) if abs(count) == 1 else None for label, count in value.counts.items() if count]
+        if None in locations or sum(value.counts.values()) or len({location[0] for location in locations}) > 1:
+            raise Unread(said.line, f"'{excerpt(said.said)}' as the size of '{excerpt(name)}'")
+        return value.number + sum(count * self.location(label)[1] for label, count in value.counts.items() if count)
 
     def numbered(self):
         """Each bundle with its section and its number there."""
@@ -152,15 +152,15 @@ class Program:
         rows += [(line, 0) for line in (f"{END}:", *END_LINES)]
         return "".join(f"{text}\n" for text, _ in rows).encode("latin-1"), [line for _, line in rows]
 
-    def bundle_rows(self, bundle, place):
+    def bundle_rows(self, bundle, location):
         yield f"{{ .{bundle.template}", bundle.line
         for slot in range(last_slot(bundle.template) + 1):
             instruction = bundle.slots.get(slot)
             stop = " ;;" if slot in bundle.stops else ""
-            yield (f"  {self.said(instruction, place)}{stop}", instruction.line) if instruction else (f"  nop 0{stop}", 0)
+            yield (f"  {self.said(instruction, location)}{stop}", instruction.line) if instruction else (f"  nop 0{stop}", 0)
         yield "}", 0
 
-    def said(self, instruction, place):
+    def said(self, instruction, location):
         """An instruction as it is printed."""
         if instruction.target:
             self.require_bundle(instruction)
@@ -169,10 +169,10 @@ class Program:
         guard = f"({instruction.guard}) " if instruction.guard else ""
         said = f"{guard}{instruction.mnemonic} {instruction.operands}{END if instruction.target else ''}".rstrip()
         if instruction.tag:
-            there = self.place(instruction.tag)
-            if there is None or there[0] != place[0] or (there[1] - place[1]) // 16 not in TAGS:
-                raise Unread(instruction.line, f"the tag '{shown(instruction.tag)}' is no bundle near here")
-            said += f", {(there[1] - place[1]) // 16}"
+            there = self.location(instruction.tag)
+            if there is None or there[0] != location[0] or (there[1] - location[1]) // 16 not in TAGS:
+                raise Unread(instruction.line, f"the tag '{excerpt(instruction.tag)}' is no bundle near here")
+            said += f", {(there[1] - location[1]) // 16}"
         return said
 
     def refusal(self, said):
@@ -184,6 +184,6 @@ class Program:
 
     def require_bundle(self, instruction):
         """A target that the source lacks is outside of it, and one that it has is a bundle."""
-        name, place = instruction.target, self.place(instruction.target)
-        if place and place[1] % 16 or place is None and (":" in name or self.own_name(name)[0] in self.inside):
-            raise Unread(instruction.line, f"'{shown(name.split(':')[0])}' names no bundle")
+        name, location = instruction.target, self.location(instruction.target)
+        if location and location[1] % 16 or location is None and (":" in name or self.own_name(name)[0] in self.inside):
+            raise Unread(instruction.line, f"'{excerpt(name.split(':')[0])}' names no bundle")

@@ -8,7 +8,7 @@ import tempfile
 import unittest
 from pathlib import Path
 
-from front.code import Rank, Stretch
+from front.code_file import Rank, Stretch
 from front.elf import Elf
 from front.faults import Fault
 from front.tests import writers
@@ -144,7 +144,7 @@ class Objects(Case):
         data = patched(data, header_place(data, 0, 32), "<QI", count, names)
         file = Elf(data)
         self.assertEqual((len(file.sections), file.sections[1].name), (count, ".text"))
-        self.assertEqual([symbol.place for symbol in file.symbols()], [(text, 0)])
+        self.assertEqual([symbol.location for symbol in file.symbols()], [(text, 0)])
 
 
 class Linked(Case):
@@ -166,8 +166,8 @@ class Linked(Case):
         file = read(elf)
         self.assertTrue(file.linked)
         self.assertEqual(file.entry(), (text, 0x20))
-        self.assertEqual([symbol.place for symbol in file.symbols()], [(text, 0x10), (text, -0x10)])
-        self.assertEqual([file.addresses.place(address) for address in (TEXT, TEXT + 0x5F, TEXT + 0x60, 0)],
+        self.assertEqual([symbol.location for symbol in file.symbols()], [(text, 0x10), (text, -0x10)])
+        self.assertEqual([file.addresses.location(address) for address in (TEXT, TEXT + 0x5F, TEXT + 0x60, 0)],
                          [(text, 0), (text, 0x5F), None, None])
 
     @in_each_form(writers.SHARED)
@@ -336,7 +336,7 @@ g:      .prologue
         for flag in ("-mle", "-mbe"):
             file = self.made("-xexplicit", flag)
             text = by_name(file)[".text"]
-            self.assertEqual(sorted((symbol.name, symbol.place[1], symbol.is_function) for symbol in file.symbols()),
+            self.assertEqual(sorted((symbol.name, symbol.location[1], symbol.is_function) for symbol in file.symbols()),
                              [("f", 0, True), ("g", 0x20, True)])
             self.assertEqual(len(file.content(text)), 64)
             self.assertEqual([(relocation.at[0] == text.index, relocation.is_branch, relocation.to)

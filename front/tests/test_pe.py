@@ -7,7 +7,7 @@ import tempfile
 import unittest
 from pathlib import Path
 
-from front.code import Rank, Stretch
+from front.code_file import Rank, Stretch
 from front.faults import Fault
 from front.pe import Pe, is_pe
 from front.tests import writers
@@ -70,7 +70,7 @@ class Linked(Case):
         self.assertEqual([section.is_stored for section in file.sections], 2 * [True] + [False] + 4 * [True])
         self.assertEqual([section.address - BASE for section in file.sections[:2]], [TEXT, DATA])
         self.assertEqual([file.content(file.sections[at]) for at in (0, 2, 3)], [2 * NOP + 2 * RETURN, b"", b"abc"])
-        self.assertEqual(file.addresses.place(BASE + DATA + 1), (1, 1))
+        self.assertEqual(file.addresses.location(BASE + DATA + 1), (1, 1))
 
     def test_a_long_name_without_a_table_of_strings(self):
         pe = writers.Pe()
@@ -424,7 +424,7 @@ start:  data8 f#, @gprel(f#)
                 self.assertEqual(list(file.stretches()), [Stretch(text, 0, 32), Stretch(text, 32, 64)])
                 self.assertEqual(list(file.pointed()), [(text, 0x30), (text, 0)])
                 named = {("f", (text, 0), True), ("long_name_of_a_function", (text, 32), True)} if name == "s.exe" else set()
-                self.assertEqual({(symbol.name, symbol.place, symbol.is_function) for symbol in file.symbols()}, named)
+                self.assertEqual({(symbol.name, symbol.location, symbol.is_function) for symbol in file.symbols()}, named)
 
 
 if __name__ == "__main__":

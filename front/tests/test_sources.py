@@ -14,7 +14,7 @@ from front import sources
 from front.elf import Elf
 from front.functions import functions_of
 from front.stand_ins import stood_in
-from front.ties import cut_ties
+from front.isolation import isolate
 from front.tests.case import PROGRAM, ROOT, Case, needs_gnu
 
 # Sources as GCC prints them with -O2.
@@ -696,7 +696,7 @@ def code_of(text):
 def functions_in(code):
     """The functions of a file, their ties cut."""
     functions = functions_of(code)
-    cut_ties(code, functions)
+    isolate(code, functions)
     return functions
 
 
@@ -1193,7 +1193,7 @@ class Verdicts(Case):
         self.assertEqual([self.check(source, *words)[0] for words in ((), ("--syscalls",))], [0, 1])
 
     def test_floating_point(self):
-        """It rides on general registers, as in object files, and `--exact` doesn't judge it."""
+        """Its registers are mapped to general ones, as in object files, and `--exact` doesn't judge it."""
         self.assertEqual(self.check(FLOATING)[1], ["2 accepted, 0 violated, 0 not judged (2 of these functions with stand-ins)"])
         wrong = self.check(FLOATING.replace("ldfd f7 = [r32]\n\tnop 0\n\tnop 0\n\t;;", "ldfd f7 = [r32]"))
         self.assertEqual((wrong[0], wrong[1][0]), (1, (

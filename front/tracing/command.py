@@ -7,7 +7,7 @@ import re
 from front import usage
 from front.faults import Fault
 from front.files import Kind, kind_of
-from front.ordering.asking import Answers
+from front.ordering.answers import Answers
 from front.ordering.states import State, position_of
 from front.tracing import document, lines, watching
 from front.tracing.changes import changes

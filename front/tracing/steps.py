@@ -10,7 +10,7 @@ import struct
 from typing import List, NamedTuple, Tuple
 
 from front.bundle import slots_of, split_all
-from front.ordering.asking import VIOLATED, Answers
+from front.ordering.answers import VIOLATED, Answers
 from front.ordering.states import State, position_of
 from front.tracing.changes import CODE_AT, Change, changes
 from front.usage import GROUP_LIMIT, TRACE_LIMIT

@@ -1,4 +1,4 @@
-"""What ties a function to the rest of its file: its direct branches that leave it, and the ways into its middle."""
+"""A function by itself, out of the rest of its file: its direct branches that leave it, and the ways into its middle."""
 
 from front.bundle import branches, with_branch, without_breaks
 from front.faults import Why
@@ -9,7 +9,7 @@ from front.functions import MOST_ENTRIES, Functions
 TABLES = ("relocation", "value")
 
 
-def cut_ties(file, functions, syscalls=False):
+def isolate(file, functions, syscalls=False):
     """Turns the branches that leave a function to its end bundle (`image`), and declares as an entry each bundle,
     but for the first, that may be reached in another way than by the function's own branches:
 
@@ -26,15 +26,15 @@ def cut_ties(file, functions, syscalls=False):
     known = Functions(functions)
     relocations = list(file.relocations())
     linking = {} if file.linked else {relocation.at: relocation for relocation in relocations if relocation.is_branch}
-    ways = [(place, "branch from outside") for function in functions
-            for place in settle_branches(file, function, linking, known)]
+    ways = [(location, "branch from outside") for function in functions
+            for location in settle_branches(file, function, linking, known)]
     ways += relocated_ways(relocations, known)
-    ways += [(place, "value") for place in file.pointed()]
-    ways += [(symbol.place, f"global label {symbol.name}") for symbol in file.symbols()
+    ways += [(location, "value") for location in file.pointed()]
+    ways += [(symbol.location, f"global label {symbol.name}") for symbol in file.symbols()
              if not symbol.is_function and symbol.rank != symbol.rank.LOCAL]
     ways += [(file.entry(), "entry point")]
-    for place, why in ways:
-        declare(known.at(place), place, why)
+    for location, why in ways:
+        declare(known.at(location), location, why)
     for function in functions:
         if not function.names:
             go_on_behind_ends(function)
@@ -68,10 +68,10 @@ def go_on_behind_breaks(function):
                 function.entries.setdefault(index + 1, "system call")
 
 
-def declare(function, place, why):
-    if function and place[1] > function.start:
-        if (place[1] - function.start) % 16 == 0:
-            function.entries.setdefault((place[1] - function.start) // 16, why)
+def declare(function, location, why):
+    if function and location[1] > function.start:
+        if (location[1] - function.start) % 16 == 0:
+            function.entries.setdefault((location[1] - function.start) // 16, why)
         elif why == "relocation":
             function.has_odd_relocation = True
 
@@ -84,12 +84,12 @@ def settle_branches(file, function, relocations, known):
         bundle = given
         for slot, bundles in branches(given):
             relocation = relocated(relocations, section, function.offset(index), slot, bundle)
-            place = relocation.to if relocation else moved(file, section, function.offset(index) + 16 * bundles)
-            inside = place and place[0] == section and function.start <= place[1] < function.end
+            location = relocation.to if relocation else moved(file, section, function.offset(index) + 16 * bundles)
+            inside = location and location[0] == section and function.start <= location[1] < function.end
             if not inside:
-                function.outside[index, slot] = known.name(place) or relocation and relocation.name or "outside"
-                leaving += [place] * bool(place)
-            to = (place[1] - function.start) // 16 if inside else function.count
+                function.outside[index, slot] = known.name(location) or relocation and relocation.name or "outside"
+                leaving += [location] * bool(location)
+            to = (location[1] - function.start) // 16 if inside else function.count
             bundle = with_branch(bundle, slot, to - index)
         if bundle != given:
             function.replace(index, bundle)
@@ -105,7 +105,7 @@ def relocated(relocations, section, offset, slot, bundle):
 def moved(file, section, offset):
     """An offset in a section, or in the section of a linked file that has the address."""
     if file.linked and not 0 <= offset < file.sections[section].size:
-        return file.addresses.place(file.sections[section].address + offset)
+        return file.addresses.location(file.sections[section].address + offset)
     return section, offset
 
 

@@ -10,9 +10,9 @@ KEPT = {4, 5, 6, 7, 12, THREAD_POINTER, *range(32, 128)}
 ADDL, SUMS, MEMORY, COMPARES = 9, 8, (4, 5), (12, 13, 14)
 
 
-def is_of_thread(bundles, first, position, register):
+def is_of_thread(bundles, first, place, register):
     """Whether the register that a slot uses is the thread pointer or a sum with it, in a function that begins at a bundle."""
-    index, slot = position
+    index, slot = place
     wanted = in_front({register}, bundles[index], slot)
     for at in range(index - 1, first - 1, -1):
         turns = turns_of(at, bundles[at])

@@ -1,36 +1,37 @@
-"""Riding: floating-point registers ride on general registers, so that a verdict looks at them too.
+"""Floating-point registers, mapped to general registers, so that a verdict looks at them too.
 
 A stand-in has no floating-point registers, since the profile has none. But groups have the same rules for them as for general
-registers. So each that a function names rides on a general register that it doesn't name: what reads or writes the one reads
-or writes the other. So do `ar.ccv` and `ar.csd`, which have the same rules as well. One instruction of the profile can't read
-and write all that, so each slot with something that rides becomes pieces: a few slots, each in a bundle of its own with nops
-beside it.
+registers. So each that a function names is mapped to a general register that it doesn't name: what reads or writes the one
+reads or writes the other. So do `ar.ccv` and `ar.csd`, which have the same rules as well. One instruction of the profile can't
+read and write all that, so each slot that names something mapped becomes pieces: a few slots, each in a bundle of its own with
+nops beside it.
 
-Why the verdict on the ridden function is that on the function, with what rides looked at:
+Why the verdict on the mapped function is that on the function, with what is mapped looked at:
 
 - Pieces stand where their slot stood, in the order of the slots. A stop behind a slot is one behind its last piece, and there
   is no other stop. Only the last piece may branch or be a check, and a branch leads to the first piece of its target. So the
   walks are the same, and so are their groups. A place where a walk may begin is the first piece of a bundle, as it was one of
   the function: what stands behind a call in its bundle stays in the call's new bundle, and the bundle behind that is the one
   that the call comes back to.
-- Together the pieces of a slot read and write what its stand-in does, and the riders of what else it reads and writes, each
-  under the slot's guard, or under none where the slot does it in any case. None reads what an earlier one has written. So
-  pieces of one slot don't clash, and those of two slots clash on a register exactly where the slots do, or on its rider where
-  they clash on what rides there.
+- Together the pieces of a slot read and write what its stand-in does, and the registers to which is mapped what else it reads
+  and writes, each under the slot's guard, or under none where the slot does it in any case. None reads what an earlier one has
+  written. So pieces of one slot don't clash, and those of two slots clash on a register exactly where the slots do, or on one
+  to which something is mapped where they clash on that.
 - Of the pieces of a slot only the last writes predicates or tells something of them. So at each piece is known what was known
   at the slot, and the same pairs are excused.
-- A slot that names a general register from r32 up reads the frame. So does one that names f32 or above, which ride on r32 and
-  above, and f2 to f31 ride below. Where there is no room, a register is spilled: it rides on one of the other kind. That is
-  done only in a function in which nothing stands behind a write of the frame in its group, so that no read of it clashes.
-- A branch may read a predicate that an integer compare of its group has written, but not one that a floating-point
-  instruction has. So a predicate that branches and floating-point instructions both name has a rider too: these write it, and
-  a piece before the branch reads it, under no guard as the branch reads its predicate. No other compare writes the rider.
-- A branch that rotates registers ends its group: so each name stands for one register in all of a group, and its rider does. A
-  function that goes on in the group doesn't ride.
+- A slot that names a general register from r32 up reads the frame. So does one that names f32 or above, which are mapped to r32
+  and above, and f2 to f31 are mapped below. Where there is no room, a register is mismatched: mapped to one of the other kind.
+  That is done only in a function in which nothing stands behind a write of the frame in its group, so that no read of it
+  clashes.
+- A branch may read a predicate that an integer compare of its group has written, but not one that a floating-point instruction
+  has. So a predicate that branches and floating-point instructions both name is mapped to a register too: these write that, and
+  a piece before the branch reads it, under no guard as the branch reads its predicate. No other compare writes it.
+- A branch that rotates registers ends its group: so each name stands for one register in all of a group, and so does what it is
+  mapped to. A function that goes on in the group isn't mapped.
 - Nops read and write nothing. `ALLOC` and `CLEAR` are violations of neighbours, and a nop beside a piece stands for its slot.
 
-So a place of a violation is mapped back (`Ridden.positions`), and a rider to what rides (`Ridden.resource`). Several violations
-may become one, since pieces of a slot have its guard each.
+So a place of a violation is mapped back (`Mapped.places`), and a register to what is mapped to it (`Mapped.resource`). Several
+violations may become one, since pieces of a slot have its guard each.
 """
 
 import functools
@@ -45,25 +46,25 @@ LONGEST_RUN = 192
 FIRST_STACKED, LAST_REGISTER = 32, 127
 FIRST_ROTATING_PREDICATE = 16
 
-Position = Tuple[int, int]
+Place = Tuple[int, int]
 
 
-class NoRoom(Exception):
-    """Why a function can't ride."""
+class NotMapped(Exception):
+    """Why a function can't be mapped."""
 
 
-class Ridden(NamedTuple):
-    """A function with what rides in it."""
+class Mapped(NamedTuple):
+    """A function whose floating-point registers are mapped."""
     bundles: List[Bundle]
     starts: List[int]                  # the number of the first bundle in the place of each old one, and how many there are
-    positions: Dict[Position, Position]         # of each slot, nops too, the bundle and the slot that it stands for
-    rows: Dict[Position, Row]             # of the slots of the function that are outside the profile
-    riders: Dict[int, str]             # what rides on a general register
-    spilled: Tuple[str, ...]           # what rides on a register of the other kind
+    places: Dict[Place, Place]         # of each slot, nops too, the bundle and the slot that it stands for
+    rows: Dict[Place, Row]             # of the slots of the function that are outside the profile
+    originals: Dict[int, str]          # what is mapped to a general register
+    mismatched: Tuple[str, ...]        # what is mapped to a register of the other kind
 
     def resource(self, name):
-        """What a resource of a violation stands for: `f6` of the register on which f6 rides."""
-        return self.riders.get(int(name[1:]), name) if name[0] == "r" and name[1:].isdigit() else name
+        """What a resource of a violation stands for: `f6` of the register to which f6 is mapped."""
+        return self.originals.get(int(name[1:]), name) if name[0] == "r" and name[1:].isdigit() else name
 
 
 # ---- Which registers a function names -------------------------------------------------------------------------------------
@@ -126,8 +127,8 @@ def general_registers(unit, word):
     if row:
         return frozenset(operand(name, word) for name in row.writes + row.reads if name in GENERAL)
     known = next((known for known in NAMINGS if unit in known.units and known.pattern.has(word)), None)
-    positions = [known.pattern.fields[name] for name in GENERAL if name in known.pattern.fields] if known else ()
-    return frozenset(word >> low & (1 << bits) - 1 for low, bits in positions)
+    fields = [known.pattern.fields[name] for name in GENERAL if name in known.pattern.fields] if known else ()
+    return frozenset(word >> low & (1 << bits) - 1 for low, bits in fields)
 
 
 # ---- What slots do --------------------------------------------------------------------------------------------------------
@@ -175,85 +176,85 @@ def slots(bundles):
             yield index, slot, unit, word
 
 
-# ---- Who rides where ------------------------------------------------------------------------------------------------------
+# ---- What is mapped where ------------------------------------------------------------------------------------------------------
 
-CARRIED = ("ar.ccv", "ar.csd")
+APPLICATION = ("ar.ccv", "ar.csd")
 FLOATING = ("f1", "f2", "f3", "f4")
 
 
-class Load(NamedTuple):
-    """What an instruction outside the profile reads and writes of general registers, but for r0, and of what rides, by its
-    names. f0 and f1 are constants."""
+class Operands(NamedTuple):
+    """What an instruction outside the profile reads and writes of general registers, but for r0, and of what is mapped, by
+    its names. f0 and f1 are constants."""
     reads: Tuple[int, ...]
     writes: Tuple[int, ...]
-    riding_reads: Tuple[str, ...]
-    riding_writes: Tuple[str, ...]
+    mapped_reads: Tuple[str, ...]
+    mapped_writes: Tuple[str, ...]
     predicates: Tuple[str, ...]        # that a floating-point instruction writes
 
 
 @functools.lru_cache(maxsize=REMEMBERED)
-def load_of(unit, word):
+def operands_of(unit, word):
     """That of an instruction, or None where it has no row."""
     row = row_of(unit, word)
     if row is None:
         return None
     written = [operand(name, word) for name in row.writes if name in ("p1", "p2") and unit == "f"]
-    return Load(registers(row.reads, word), registers(row.writes, word), passengers(row.reads, word),
-                passengers(row.writes, word), tuple(f"p{number}" for number in written if number))
+    return Operands(registers(row.reads, word), registers(row.writes, word), mapped_names(row.reads, word),
+                    mapped_names(row.writes, word), tuple(f"p{number}" for number in written if number))
 
 
 def registers(names, word):
     return tuple(operand(name, word) for name in names if name in GENERAL and operand(name, word))
 
 
-def passengers(names, word):
-    return tuple(name if name in CARRIED else f"f{operand(name, word)}" for name in names
-                 if name in CARRIED or name in FLOATING and operand(name, word) > 1)
+def mapped_names(names, word):
+    return tuple(name if name in APPLICATION else f"f{operand(name, word)}" for name in names
+                 if name in APPLICATION or name in FLOATING and operand(name, word) > 1)
 
 
-def all_passengers(bundles):
-    """All that ride in a function, in the order in which it names them."""
+def all_mapped(bundles):
+    """All that is mapped in a function, in the order in which it names them."""
     found, written, guards = [], [], set()
     for _, _, unit, word in slots(bundles):
-        load = load_of(unit, word)
-        if load:
-            found += load.riding_reads + load.riding_writes
-            written += load.predicates
+        operands = operands_of(unit, word)
+        if operands:
+            found += operands.mapped_reads + operands.mapped_writes
+            written += operands.predicates
         if is_branch(unit, word):
             guards.add(f"p{operand('qp', word)}")
     return list(dict.fromkeys(found + [name for name in written if name in guards]))
 
 
 def floating_guards(bundles):
-    """The predicates that both branches and floating-point instructions name: without a rider a branch seems to see them as an
-    integer compare of its group wrote them."""
-    return [passenger for passenger in all_passengers(bundles) if passenger[0] == "p"]
+    """The predicates that branches and floating-point instructions both name: unless they are mapped, a branch seems to see them
+    as an integer compare of its group wrote them."""
+    return [name for name in all_mapped(bundles) if name[0] == "p"]
 
 
-def is_named_by_frame(passenger):
-    first = {"f": FIRST_STACKED, "p": FIRST_ROTATING_PREDICATE}.get(passenger[0])
-    return first is not None and int(passenger[1:]) >= first
+def is_named_by_frame(name):
+    first = {"f": FIRST_STACKED, "p": FIRST_ROTATING_PREDICATE}.get(name[0])
+    return first is not None and int(name[1:]) >= first
 
 
-def seats(bundles):
-    """The general register on which each passenger rides, and which of them are spilled."""
+def mapping_of(bundles):
+    """The general register to which each name is mapped, and which of them are mismatched."""
     named = {register for _, _, unit, word in slots(bundles) for register in general_registers(unit, word)}
     free = {stacked: [register for register in range(first, last) if register not in named]
             for stacked, first, last in ((False, 1, FIRST_STACKED), (True, FIRST_STACKED, LAST_REGISTER + 1))}
-    wanted = all_passengers(bundles)
+    wanted = all_mapped(bundles)
     room = len(free[False]) + len(free[True])
     if len(wanted) > room:
-        raise NoRoom(f"it leaves {room} general registers free for {len(wanted)} others")
+        raise NotMapped(f"it leaves {room} general registers free for {len(wanted)} others")
     found, left_over = {}, []
-    for passenger in wanted:
-        if free[is_named_by_frame(passenger)]:
-            found[passenger] = free[is_named_by_frame(passenger)].pop()
+    for name in wanted:
+        if free[is_named_by_frame(name)]:
+            found[name] = free[is_named_by_frame(name)].pop()
         else:
-            left_over.append(passenger)
+            left_over.append(name)
     if left_over and frame_matters(bundles):
-        raise NoRoom(f"it leaves too few general registers free for {left_over[0]}, and reads of its frame matter")
-    for passenger in left_over:
-        found[passenger] = free[not is_named_by_frame(passenger)].pop()
+        raise NotMapped(f"it leaves too few general registers free for {left_over[0]}, and reads of its frame matter")
+    for name in left_over:
+        found[name] = free[not is_named_by_frame(name)].pop()
     return found, tuple(left_over)
 
 
@@ -266,7 +267,7 @@ def frame_matters(bundles):
 # ---- Pieces ---------------------------------------------------------------------------------------------------------------
 
 # The template and the slot where a piece for each unit stands.
-HOMES = {"m": (0x00, 0), "i": (0x00, 1), "f": (0x0C, 1), "b": (0x10, 2), "x": (LONG, 2)}
+PIECE_SLOTS = {"m": (0x00, 0), "i": (0x00, 1), "f": (0x0C, 1), "b": (0x10, 2), "x": (LONG, 2)}
 
 
 class Piece(NamedTuple):
@@ -294,41 +295,41 @@ def transfers(sources, targets, guard):
     return reads + [writing(target, () if number else sources[early:], guard) for number, target in enumerate(targets)]
 
 
-class Ride:
-    """A function on its way to a ridden one."""
+class Mapper:
+    """A function on its way to a mapped one."""
 
     def __init__(self, bundles):
         self.old = bundles
-        self.seats, self.spilled = seats(bundles)
+        self.registers, self.mismatched = mapping_of(bundles)
         self.bundles: List[Bundle] = []
-        self.positions: Dict[Position, Position] = {}
+        self.places: Dict[Place, Place] = {}
         self.starts: List[int] = []
         self.origins: List[int] = []                   # of each new bundle the number of the old one
 
     def pieces(self, unit, word):
-        """The pieces of an instruction with something that rides; where nothing does, none."""
-        load, guard = load_of(unit, word), operand("qp", word)
-        predicates = [self.seats[name] for name in load.predicates if name in self.seats] if load else []
-        if not predicates and not (load and (load.riding_reads or load.riding_writes)):
+        """The pieces of an instruction that names something mapped; of another one, none."""
+        operands, guard = operands_of(unit, word), operand("qp", word)
+        predicates = [self.registers[name] for name in operands.predicates if name in self.registers] if operands else []
+        if not predicates and not (operands and (operands.mapped_reads or operands.mapped_writes)):
             return []
-        sources, targets = (list(dict.fromkeys([*own, *(self.seats[name] for name in names)])) for own, names in
-                            ((load.reads, load.riding_reads), (load.writes, load.riding_writes)))
+        sources, targets = (list(dict.fromkeys([*own, *(self.registers[name] for name in names)])) for own, names in
+                            ((operands.reads, operands.mapped_reads), (operands.writes, operands.mapped_writes)))
         kind, last = row_of(unit, word).kind, Piece(*stand_in(unit, word))
         if kind is Kind.CHECK:
             return [last._replace(word=last.word | sources[0] << 13)]
         made = transfers(sources, targets, guard)
         if kind in COMPARES:
-            made += [writing(seat, guard=0 if kind is Kind.UNC else guard) for seat in predicates] + [last]
+            made += [writing(register, guard=0 if kind is Kind.UNC else guard) for register in predicates] + [last]
         return made
 
     def guard_reads(self, unit, word):
-        """A piece before a branch that reads the rider of its guard, where this has one."""
-        seat = self.seats.get(f"p{operand('qp', word)}") if is_branch(unit, word) else None
-        return [reading(0, seat)] if seat else []
+        """A piece before a branch that reads what its guard is mapped to, where that is."""
+        register = self.registers.get(f"p{operand('qp', word)}") if is_branch(unit, word) else None
+        return [reading(0, register)] if register else []
 
     # ---- Bundles
 
-    def add_old(self, index):
+    def add_bundle(self, index):
         """Adds what comes in the place of a bundle."""
         bundle = self.old[index]
         self.starts.append(len(self.bundles))
@@ -340,7 +341,7 @@ class Ride:
         for together in slot_groups(bundle):
             first = together[0]
             if any(before[slot] for slot in together[1:]):
-                raise NoRoom("a branch stands behind a call in its bundle")
+                raise NotMapped("a branch stands behind a call in its bundle")
             stop = together[-1] in stops_behind(bundle)
             own = [[piece] for piece in pieces[first]] or [[own_piece(stood, slot) for slot in together]]
             made = [[piece] for piece in before[first]] + own
@@ -350,7 +351,7 @@ class Ride:
     def add_pieces(self, index, together, pieces, stop):
         """Adds a bundle for a piece, or for those of a call and what stands behind it. Nops beside a piece stand for its
         slot."""
-        template, at = HOMES[pieces[0].unit] if len(pieces) == 1 else (BRANCHES, 3 - len(pieces))
+        template, at = PIECE_SLOTS[pieces[0].unit] if len(pieces) == 1 else (BRANCHES, 3 - len(pieces))
         words = [NOPS[unit] for unit in UNITS[template]]
         words[at:at + len(pieces)] = [piece.word for piece in pieces]
         if template == LONG:
@@ -358,13 +359,13 @@ class Ride:
         bundle, owners = Bundle(template | stop, tuple(words)), together if len(pieces) > 1 else together[:1]
         self.add(index, bundle, {slot: owners[min(max(0, slot - at), len(owners) - 1)] for slot in slots_of(bundle)})
 
-    def add(self, index, bundle, positions):
-        for slot, old in positions.items():
-            self.positions[len(self.bundles), slot] = index, old
+    def add(self, index, bundle, places):
+        for slot, old in places.items():
+            self.places[len(self.bundles), slot] = index, old
         self.bundles.append(bundle)
         self.origins.append(index)
 
-    def settle(self):
+    def set_displacements(self):
         """Gives each branch and check the displacement of its new target. One that leads out of the function leads behind
         it."""
         count = len(self.old)
@@ -383,37 +384,37 @@ def slot_groups(bundle):
 
 
 def own_piece(stood, slot):
-    """What stands for a slot with nothing that rides."""
+    """What stands for a slot that names nothing mapped."""
     at = max(new for new, old in stood.slots.items() if old == slot)
     if stood.bundle.units[at] == "l":
         return Piece("x", stood.bundle.words[2], stood.bundle.words[1])
     return Piece(stood.bundle.units[at], stood.bundle.words[at])
 
 
-def ride(bundles) -> Ridden:
-    """The ridden function. Its bundles have their displacements in bundles, where how many there are is behind it. NoStandIn
-    where nothing stands in for a slot, and NoRoom where the function can't ride; then it has plain stand-ins."""
+def on_general_registers(bundles) -> Mapped:
+    """The mapped function. Its bundles have their displacements in bundles, where how many there are is behind it. NoStandIn
+    where nothing stands in for a slot, and NotMapped where the function can't be mapped; then it has plain stand-ins."""
     rows = {(index, slot): row for index, bundle in enumerate(bundles) for slot, row in rows_of(bundle).items()}
     for (_, slot), row in rows.items():
         if row.none:
             raise NoStandIn(slot, row, row.none)
     if any(rotates(unit, word) and slot not in stops_behind(bundles[index]) for index, slot, unit, word in slots(bundles)):
-        raise NoRoom("it rotates registers within a group")
-    made = Ride(bundles)
+        raise NotMapped("it rotates registers within a group")
+    made = Mapper(bundles)
     for index in range(len(bundles)):
-        made.add_old(index)
+        made.add_bundle(index)
     made.starts.append(len(made.bundles))
-    made.settle()
+    made.set_displacements()
     require_short_runs(made.bundles)
-    riders = {register: passenger for passenger, register in made.seats.items()}
-    return Ridden(made.bundles, made.starts, made.positions, rows, riders, made.spilled)
+    originals = {register: name for name, register in made.registers.items()}
+    return Mapped(made.bundles, made.starts, made.places, rows, originals, made.mismatched)
 
 
 def require_short_runs(bundles):
-    """NoRoom where more slots stand without a stop than the program takes, one behind the function among them."""
+    """NotMapped where more slots stand without a stop than the program takes, one behind the function among them."""
     run = 0
     for bundle in bundles:
         for slot in slots_of(bundle):
             run = 0 if slot in stops_behind(bundle) else run + 1
             if run >= LONGEST_RUN:
-                raise NoRoom("it would have too many slots without a stop")
+                raise NotMapped("it would have too many slots without a stop")

@@ -11,7 +11,7 @@ from front.tracing.steps import Places, steps
 from front.usage import TRACE_LIMIT
 
 
-class CalledCode(Places):
+class CallPlaces(Places):
     """The places of the image of a call."""
 
     def __init__(self, teller):
@@ -56,11 +56,11 @@ class CalledCode(Places):
         return self.names.said_address(value) or ""
 
 
-class Followed:
+class CallTrace:
     """The first groups of the run of a call, at most so many."""
 
     def __init__(self, program, teller, count):
-        self.code = CalledCode(teller)
+        self.code = CallPlaces(teller)
         self.found = steps(program, teller.made.image(), 1, count, self.code)
 
     def steps(self):

@@ -1,4 +1,4 @@
-"""Riding, on small functions that the proved program judges, and on random ones.
+"""Floating-point registers as general ones, on small functions that the proved program judges, and on random ones.
 
 The path of the program is in IA64_PROGRAM. GNU objdump for ia64 is asked where it is installed."""
 
@@ -7,9 +7,9 @@ import re
 import struct
 import unittest
 
-from front import riding
+from front import floating_registers
 from front.bundle import NOPS, UNITS, Bundle, Layout, branches, with_branch, with_displacement
-from front.riding import NoRoom, ride
+from front.floating_registers import NotMapped, on_general_registers
 from front.stand_ins import FORMATS, INDEX, PLACES, ROWS, WITHOUT_F, Kind, NoStandIn, Pattern, row_of, stood_in
 from front.tests.test_stand_ins import (HOMES, ask, gnu_texts, home, in_profile, needs_objdump, needs_program, of_row,
                                         random_word)
@@ -83,12 +83,12 @@ def check(bundles, entries=()):
     return [(rule, resource, *(tuple(map(int, place.split("."))) for place in places)) for rule, resource, *places in rows]
 
 
-def ridden_verdict(bundles, entries=()):
-    """That of the ridden function, mapped back."""
-    ridden = ride(bundles)
-    places = {**ridden.positions, **{(len(ridden.bundles), slot): (len(bundles), slot) for slot in range(3)}}
-    return {(rule, ridden.resource(resource), places[first], places[second])
-            for rule, resource, first, second in check(ridden.bundles, [ridden.starts[entry] for entry in entries])}
+def mapped_verdict(bundles, entries=()):
+    """That of the mapped function, mapped back."""
+    mapped = on_general_registers(bundles)
+    places = {**mapped.places, **{(len(mapped.bundles), slot): (len(bundles), slot) for slot in range(3)}}
+    return {(rule, mapped.resource(resource), places[first], places[second])
+            for rule, resource, first, second in check(mapped.bundles, [mapped.starts[entry] for entry in entries])}
 
 
 def plain_verdict(bundles, entries=()):
@@ -103,7 +103,7 @@ class Verdicts(unittest.TestCase):
     """What is found, and what isn't."""
 
     def finds(self, bundles, *wanted, entries=()):
-        self.assertEqual(ridden_verdict(bundles, entries), set(wanted))
+        self.assertEqual(mapped_verdict(bundles, entries), set(wanted))
 
     def test_two_writes(self):
         fma = out("fma", **FMA)
@@ -178,7 +178,7 @@ class Verdicts(unittest.TestCase):
         self.finds([fp(out("frcpa", f1=10, p2=6)), *both], ("WAW", "f6", (1, 1), (2, 1)))
 
     def test_application_registers(self):
-        """ar.ccv and ar.csd ride too."""
+        """ar.ccv and ar.csd are mapped too."""
         move, swap = out("mov.m", "M29", r2=8), out("cmpxchg8", r1=9, r3=10, r2=11)
         self.finds([bundle(MMI | STOP, move, swap, None)], ("RAW", "ar.ccv", (0, 0), (0, 1)))
         self.finds([bundle(M_MI | STOP, move, swap, None)])
@@ -207,7 +207,7 @@ class Verdicts(unittest.TestCase):
             self.finds([bundle(MMB | STOP, setf, None, word), fp(out("fma", **FMA))])
 
     def test_frame(self):
-        """Registers that the frame names ride on such ones: f40 and f6 behind a call that falls through."""
+        """Registers that the frame names are mapped to such ones: f40 and f6 behind a call that falls through."""
         after = bundle(MMB, None, out("setf", f1=10, r2=8), call(1, 16))
         high = [after, fp(out("fma", f1=40, f2=2, f3=2, f4=2))]
         self.finds([after, fp(out("fma", f1=6, f2=2, f3=2, f4=2))])
@@ -223,12 +223,12 @@ def is_floating(bundles, violation):
 
 @needs_program
 class AgainstPlainStandIns(unittest.TestCase):
-    """Random functions: what isn't of what rides is as with plain stand-ins, and what is, is as the rows say."""
+    """Random functions: what isn't of what is mapped is as with plain stand-ins, and what is, is as the rows say."""
 
     def setUp(self):
         self.draw = random.Random(3)
         self.rows = {unit: [row for row in ROWS if unit in row.units and row.kind is not Kind.NONE] for unit in "mifb"}
-        self.riding = {unit: [row for row in rows if any(name[0] == "f" or name in riding.CARRIED
+        self.mapped = {unit: [row for row in rows if any(name[0] == "f" or name in floating_registers.APPLICATION
                                                          for name in row.writes + row.reads)] or rows
                        for unit, rows in self.rows.items()}
 
@@ -257,7 +257,7 @@ class AgainstPlainStandIns(unittest.TestCase):
         return self.narrowed(unit, self.random_word(unit), guards)
 
     def random_word(self, unit):
-        return random_word(self.draw.choice((self.riding if self.draw.random() < 0.7 else self.rows)[unit]), self.draw)
+        return random_word(self.draw.choice((self.mapped if self.draw.random() < 0.7 else self.rows)[unit]), self.draw)
 
     def settled(self, bundles):
         """The bundles with all branches and checks within them, or behind them."""
@@ -274,12 +274,12 @@ class AgainstPlainStandIns(unittest.TestCase):
         for _ in range(80):
             bundles = self.settled([self.random_bundle((0, 0, 6, 7)) for _ in range(4)])
             try:
-                ridden = ridden_verdict(bundles)
-            except NoRoom as reason:
+                mapped = mapped_verdict(bundles)
+            except NotMapped as reason:
                 self.assertIn("behind a call", str(reason))
                 continue
-            more = {row for row in ridden if row[1][0] == "f" or row[1] in riding.CARRIED or is_floating(bundles, row)}
-            self.assertEqual(ridden - more, plain_verdict(bundles), bundles)
+            more = {row for row in mapped if row[1][0] == "f" or row[1] in floating_registers.APPLICATION or is_floating(bundles, row)}
+            self.assertEqual(mapped - more, plain_verdict(bundles), bundles)
             found += len(more)
         self.assertGreater(found, 20)
 
@@ -293,7 +293,7 @@ class AgainstPlainStandIns(unittest.TestCase):
             bundles = self.settled([Bundle(part.template, tuple(self.without_check(unit) for unit in part.units))
                                     for part in bundles])
             wanted = self.clashes(bundles)
-            self.assertEqual({row for row in ridden_verdict(bundles) if row[1][0] not in "rp"}, wanted, bundles)
+            self.assertEqual({row for row in mapped_verdict(bundles) if row[1][0] not in "rp"}, wanted, bundles)
             found += len(wanted)
         self.assertGreater(found, 60)
 
@@ -313,7 +313,7 @@ class AgainstPlainStandIns(unittest.TestCase):
                     found |= {("RAW", name, place, (index, slot)) for name in written & reads}
                     found |= {("WAW", name, place, (index, slot)) for name in written & writes}
                 group.append(((index, slot), writes))
-                if slot in riding.stops_behind(part):
+                if slot in floating_registers.stops_behind(part):
                     group = []
         return found
 
@@ -356,7 +356,7 @@ class AgainstGeneralRegisters(unittest.TestCase):
         found = floating = 0
         for _ in range(80):
             these, those = zip(*(self.bundles(index) for index in range(5)))
-            got = ridden_verdict(these)
+            got = mapped_verdict(these)
             more = {row for row in got if is_floating(these, row)}
             wanted = {(rule, re.sub(r"^r(?=\d)", "f", resource), *places) for rule, resource, *places in check(those)}
             self.assertEqual(got - more, wanted, these)
@@ -366,80 +366,80 @@ class AgainstGeneralRegisters(unittest.TestCase):
 
 
 class Bundles(unittest.TestCase):
-    """The ridden bundles, without a program."""
+    """The mapped bundles, without a program."""
 
-    def test_nothing_rides(self):
+    def test_nothing_is_mapped(self):
         bundles = [bundle(MIB, out("lfetch", r3=8), None, branch(0, 6)), bundle(MIB | STOP, None, None, RETURN)]
-        ridden = ride(bundles)
-        self.assertEqual((ridden.bundles, ridden.starts), ([stood_in(part).bundle for part in bundles], [0, 1, 2]))
-        self.assertEqual((ridden.riders, ridden.spilled, list(ridden.rows)), ({}, (), [(0, 0)]))
+        mapped = on_general_registers(bundles)
+        self.assertEqual((mapped.bundles, mapped.starts), ([stood_in(part).bundle for part in bundles], [0, 1, 2]))
+        self.assertEqual((mapped.originals, mapped.mismatched, list(mapped.rows)), ({}, (), [(0, 0)]))
 
     def test_constants(self):
-        """f0 and f1 don't ride."""
-        ridden = ride([fp(out("fma", f1=6, f2=0, f3=1, f4=1)), bundle(MMI | STOP, out("stfd", "M9", f2=1, r3=8), None, None)])
-        self.assertEqual(set(ridden.riders.values()), {"f6"})
+        """f0 and f1 aren't mapped."""
+        mapped = on_general_registers([fp(out("fma", f1=6, f2=0, f3=1, f4=1)), bundle(MMI | STOP, out("stfd", "M9", f2=1, r3=8), None, None)])
+        self.assertEqual(set(mapped.originals.values()), {"f6"})
 
     def test_places(self):
         """Each slot of each new bundle stands for one of the old one, in order, and each old one has slots."""
         bundles = [bundle(MFI, out("setf", f1=6, r2=8), out("fma", **FMA), None), bundle(MLX | STOP, None, 5, NOPS["x"]),
                    bundle(MMF | STOP, out("lfetch", r3=8), None, out("fma", **FMA))]
-        ridden = ride(bundles)
-        places = [ridden.positions[index, slot] for index, part in enumerate(ridden.bundles) for slot in riding.slots_of(part)]
+        mapped = on_general_registers(bundles)
+        places = [mapped.places[index, slot] for index, part in enumerate(mapped.bundles) for slot in floating_registers.slots_of(part)]
         self.assertEqual(places, sorted(places))
-        self.assertEqual(len(places), len(ridden.positions))
-        self.assertEqual(set(places), {(index, slot) for index, part in enumerate(bundles) for slot in riding.slots_of(part)})
-        self.assertEqual(ridden.starts, [0, 4, 5, 9])
-        self.assertEqual({name for name in ridden.riders.values()}, {"f6", "f7", "f8", "f9"})
+        self.assertEqual(len(places), len(mapped.places))
+        self.assertEqual(set(places), {(index, slot) for index, part in enumerate(bundles) for slot in floating_registers.slots_of(part)})
+        self.assertEqual(mapped.starts, [0, 4, 5, 9])
+        self.assertEqual({name for name in mapped.originals.values()}, {"f6", "f7", "f8", "f9"})
 
     def test_stops(self):
         """A stop behind a slot is one behind its last piece, and there is no other."""
         for template, behind in ((MFI, []), (MFI | STOP, [2]), (MI_I, [1]), (MI_I | STOP, [1, 2]), (M_MI, [0]),
                                  (MLX | STOP, [1]), (MMB | STOP, [2]), (MFB, [])):
             words = [out("setf", f1=6, r2=8)] + [None, None]
-            ridden = ride([bundle(template, *words)])
-            stops = [ridden.positions[index, slot] for index, part in enumerate(ridden.bundles)
-                     for slot in riding.stops_behind(part)]
+            mapped = on_general_registers([bundle(template, *words)])
+            stops = [mapped.places[index, slot] for index, part in enumerate(mapped.bundles)
+                     for slot in floating_registers.stops_behind(part)]
             self.assertEqual(stops, [(0, slot) for slot in behind])
-            for index, part in enumerate(ridden.bundles):
-                for slot in riding.stops_behind(part):
-                    self.assertEqual(slot, riding.slots_of(part)[-1])
+            for index, part in enumerate(mapped.bundles):
+                for slot in floating_registers.stops_behind(part):
+                    self.assertEqual(slot, floating_registers.slots_of(part)[-1])
 
     def test_branches(self):
         """Branches and checks lead to the first bundle of their target."""
         bundles = [fp(out("fma", **FMA)), with_branch(bundle(MFB | STOP, None, out("fchkf"), branch(1, 6)), 1, -1),
                    fp(out("fma", **FMA)),
                    with_branch(with_branch(bundle(MLX | STOP, out("chk.s", f2=6), 0, 0xC << 37 | 6), 0, 1), 1, -3)]
-        ridden = ride(bundles)
-        found = [(ridden.positions[index, slot], ridden.starts.index(index + away)) for index, part in enumerate(ridden.bundles)
+        mapped = on_general_registers(bundles)
+        found = [(mapped.places[index, slot], mapped.starts.index(index + away)) for index, part in enumerate(mapped.bundles)
                  for slot, away in branches(part)]
         self.assertEqual(found, [((1, 1), 0), ((1, 2), 2), ((3, 0), 4), ((3, 1), 0)])
-        self.assertEqual(ridden.starts[-1], len(ridden.bundles))
+        self.assertEqual(mapped.starts[-1], len(mapped.bundles))
 
     def test_calls(self):
         """Behind a bundle with a call comes what stood behind it."""
         setf = out("setf", f1=6, r2=8)
         for template, words in ((MIB, (setf, None, call(1))), (MBB, (setf, call(1, 6), None)),
                                 (MBB, (setf, call(1, 6), branch(1, 7)))):
-            ridden = ride([bundle(template, *words), bundle(MII | STOP, None, None, None)])
-            calls = [index for index, part in enumerate(ridden.bundles) for unit, word in zip(part.units, part.words)
-                     if riding.is_call(unit, word)]
-            self.assertEqual(calls, [ridden.starts[1] - 1])
+            mapped = on_general_registers([bundle(template, *words), bundle(MII | STOP, None, None, None)])
+            calls = [index for index, part in enumerate(mapped.bundles) for unit, word in zip(part.units, part.words)
+                     if floating_registers.is_call(unit, word)]
+            self.assertEqual(calls, [mapped.starts[1] - 1])
         fcmp = fp(out("fcmp", p1=6, p2=7), MFI)
-        ridden = ride([fcmp, bundle(MBB | STOP, None, call(1, 6), branch(1, 8)), fcmp])
-        self.assertEqual([ridden.positions[ridden.starts[1] + 2, slot] for slot in range(3)], [(1, 1), (1, 1), (1, 2)])
-        with self.assertRaisesRegex(NoRoom, "behind a call"):
-            ride([fcmp, bundle(MBB | STOP, None, call(1, 8), branch(1, 6)), fcmp])
+        mapped = on_general_registers([fcmp, bundle(MBB | STOP, None, call(1, 6), branch(1, 8)), fcmp])
+        self.assertEqual([mapped.places[mapped.starts[1] + 2, slot] for slot in range(3)], [(1, 1), (1, 1), (1, 2)])
+        with self.assertRaisesRegex(NotMapped, "behind a call"):
+            on_general_registers([fcmp, bundle(MBB | STOP, None, call(1, 8), branch(1, 6)), fcmp])
 
     def test_rotation(self):
         """A branch that rotates has to end its group."""
         for kind in (2, 3, 5, 6, 7):
-            ride([fp(out("fma", **FMA)), bundle(MIB | STOP, None, None, branch(-1) | kind << 6)])
+            on_general_registers([fp(out("fma", **FMA)), bundle(MIB | STOP, None, None, branch(-1) | kind << 6)])
             goes_on = [fp(out("fma", **FMA)), bundle(MIB, None, None, branch(-1) | kind << 6), bundle(MII | STOP, None, None, None)]
             if kind == 5:
-                ride(goes_on)
+                on_general_registers(goes_on)
             else:
-                with self.assertRaisesRegex(NoRoom, "rotates registers within a group"):
-                    ride(goes_on)
+                with self.assertRaisesRegex(NotMapped, "rotates registers within a group"):
+                    on_general_registers(goes_on)
 
     def naming(self, registers):
         return [bundle(MII | STOP, None, add(register, 0, 0), None) for register in registers]
@@ -448,30 +448,30 @@ class Bundles(unittest.TestCase):
         """Registers below r32 are for what the frame doesn't name. Others are taken only where no read of the frame
         clashes."""
         fma = [fp(out("fma", f1=6, f2=7, f3=40, f4=40))]
-        ridden = ride(self.naming(range(1, 30)) + fma)
-        self.assertEqual(({name: register for register, name in ridden.riders.items()}, ridden.spilled),
+        mapped = on_general_registers(self.naming(range(1, 30)) + fma)
+        self.assertEqual(({name: register for register, name in mapped.originals.items()}, mapped.mismatched),
                          ({"f40": 127, "f7": 31, "f6": 30}, ()))
-        ridden = ride(self.naming(range(1, 31)) + fma)
-        self.assertEqual((set(ridden.riders), ridden.spilled), ({31, 127, 126}, ("f6",)))
-        ridden = ride(self.naming(range(32, 128)) + fma)
-        self.assertEqual((ridden.spilled, max(ridden.riders)), (("f40",), 31))
+        mapped = on_general_registers(self.naming(range(1, 31)) + fma)
+        self.assertEqual((set(mapped.originals), mapped.mismatched), ({31, 127, 126}, ("f6",)))
+        mapped = on_general_registers(self.naming(range(32, 128)) + fma)
+        self.assertEqual((mapped.mismatched, max(mapped.originals)), (("f40",), 31))
         behind = [bundle(MMB, None, None, call(1, 6)), bundle(MII | STOP, None, None, None)]
-        ride(self.naming(range(1, 30)) + fma + behind)
-        with self.assertRaisesRegex(NoRoom, "frame"):
-            ride(self.naming(range(1, 31)) + fma + behind)
-        with self.assertRaisesRegex(NoRoom, "2 general registers free for 3 others"):
-            ride(self.naming(range(1, 126)) + fma)
+        on_general_registers(self.naming(range(1, 30)) + fma + behind)
+        with self.assertRaisesRegex(NotMapped, "frame"):
+            on_general_registers(self.naming(range(1, 31)) + fma + behind)
+        with self.assertRaisesRegex(NotMapped, "2 general registers free for 3 others"):
+            on_general_registers(self.naming(range(1, 126)) + fma)
 
     def test_long_runs(self):
         """The program takes 192 slots without a stop, and one stands behind the function."""
         part = fp(out("fma", **FMA), MFI)
-        self.assertEqual(len(ride([part] * 15).bundles), 60)
-        with self.assertRaisesRegex(NoRoom, "without a stop"):
-            ride([part] * 16)
+        self.assertEqual(len(on_general_registers([part] * 15).bundles), 60)
+        with self.assertRaisesRegex(NotMapped, "without a stop"):
+            on_general_registers([part] * 16)
 
     def test_none(self):
         with self.assertRaises(NoStandIn):
-            ride([bundle(MMI | STOP, out("flushrs"), out("setf", f1=6), None)])
+            on_general_registers([bundle(MMI | STOP, out("flushrs"), out("setf", f1=6), None)])
 
 
 class Names(unittest.TestCase):
@@ -491,7 +491,7 @@ class Names(unittest.TestCase):
         for (unit, word), texts in zip(words, gnu_texts([home(unit, word) for unit, word in words])):
             text = texts[1 if unit == "x" else HOMES[unit][1]]
             named = {int(number) for number in re.findall(r"\br(\d+)\b", text)} - {0}
-            self.assertLessEqual(named, riding.general_registers(unit, word), text)
+            self.assertLessEqual(named, floating_registers.general_registers(unit, word), text)
             found += bool(named)
         self.assertGreater(found, 2000)
 

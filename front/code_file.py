@@ -1,6 +1,6 @@
 """What files of code have in common, whatever their format: sections, symbols, and what points into code.
 
-A place is the number of a section and an offset in it. The readers of the formats (`elf`, `pe`) give their files this form,
+A location is the number of a section and an offset in it. The readers of the formats (`elf`, `pe`) give their files this form,
 and all that follows, from the functions of a file to the verdicts on them, looks at nothing else.
 """
 
@@ -9,7 +9,7 @@ from bisect import bisect_right
 from enum import IntEnum
 from typing import List, NamedTuple, Optional, Tuple
 
-Place = Tuple[int, int]
+Location = Tuple[int, int]
 WORD64 = (1 << 64) - 1
 
 
@@ -34,16 +34,16 @@ class Symbol(NamedTuple):
     """A symbol of a function, or a label, in code."""
     name: str
     rank: Rank
-    place: Place                       # which a damaged file may have outside of the section
+    location: Location                       # which a damaged file may have outside of the section
     size: int
     is_function: bool
 
 
 class Relocation(NamedTuple):
     """Something that the linker has still to put in, or that the loader may move."""
-    at: Place                          # of a branch, the offset of its bundle with the slot in the low bits
+    at: Location                          # of a branch, the offset of its bundle with the slot in the low bits
     is_branch: bool
-    to: Optional[Place]
+    to: Optional[Location]
     name: str                          # of what it points to, or nothing
 
 
@@ -60,7 +60,7 @@ class Addresses:
     def __init__(self, sections):
         self.rows = sorted((section.address, section.index, section.size) for section in sections if section.size > 0)
 
-    def place(self, address):
+    def location(self, address):
         """The section that has this address, and the offset in it, or None."""
         address &= WORD64
         at = bisect_right(self.rows, (address, float("inf"))) - 1
@@ -100,7 +100,7 @@ class CodeFile:
         return []
 
     def pointed(self):
-        """The places in the code of a linked file of which the addresses stand in its data: an aligned word is one, or, in data
+        """The locations in the code of a linked file of which the addresses stand in its data: an aligned word is one, or, in data
         that are only read, its distance from the word on."""
         code = [section for section in self.sections if section.is_code]
         low = min((section.address for section in code), default=0)
@@ -111,20 +111,20 @@ class CodeFile:
             content = self.content(section)[skip:]
             for number, (word,) in enumerate(self.word.iter_unpack(content[:len(content) - len(content) % size])):
                 if low <= word < high:
-                    yield from self.code_places(word)
+                    yield from self.code_locations(word)
                 word = word + section.address + skip + size * number & (1 << 8 * size) - 1
                 if is_only_read and low <= word < high:
-                    yield from self.code_places(word)
+                    yield from self.code_locations(word)
 
-    def code_places(self, address):
-        """The place in code that has an address, if there is one."""
-        place = self.addresses.place(address)
-        return [place] if place and self.sections[place[0]].is_code else []
+    def code_locations(self, address):
+        """The location in code that has an address, if there is one."""
+        location = self.addresses.location(address)
+        return [location] if location and self.sections[location[0]].is_code else []
 
     def entry(self):
-        """The place where a linked file begins, or None."""
+        """The location where a linked file begins, or None."""
         return None
 
-    def line(self, place):
+    def line(self, location):
         """The line of the file itself at which a slot stands, where it is a source: a section, an offset, a slot."""
         return None

@@ -19,7 +19,7 @@ from front.usage import GROUP_LIMIT
 LONGEST_GROUP = 192
 
 
-class Beside(NamedTuple):
+class SlotBySlot(NamedTuple):
     """A state slot by slot by its lines, or why there is none; and what it is called."""
     name: str
     lines: Optional[Dict[str, str]]
@@ -31,7 +31,7 @@ class Beside(NamedTuple):
 
 
 def not_shown(why):
-    return Beside("slot by slot", None, why)
+    return SlotBySlot("slot by slot", None, why)
 
 
 def text_of(answers, data):
@@ -53,7 +53,7 @@ def told(state, parted, beside):
     return lines
 
 
-def beside_all(answers, data, groups, state):
+def whole_run(answers, data, groups, state):
     """Slot by slot to the end of a run, which leaves this state in program order."""
     if state.startswith("end limit"):
         return not_shown(f"the run doesn't end within {groups} group" + "s" * (groups != 1))
@@ -67,7 +67,7 @@ def beside_all(answers, data, groups, state):
         return not_shown(str(fault))
     if printed.startswith("end limit"):
         return not_shown(f"slot by slot the run doesn't end within {most} slots")
-    return Beside("slot by slot", told(printed, parted, state))
+    return SlotBySlot("slot by slot", told(printed, parted, state))
 
 
 def is_same_before(asked, parted):
@@ -77,10 +77,10 @@ def is_same_before(asked, parted):
     return told(asked.groups(parted.text, asked.number - 1, 0), parted, asked.before) == lines_of(asked.before)
 
 
-def beside_group(asked, is_apart):
+def through_group(asked, is_apart):
     """Slot by slot through one group of a run, and all groups before it as they are."""
     if asked.accepted:
-        return Beside("run", lines_of(asked.answers.of(["run", str(asked.number)], asked.data)[1]))
+        return SlotBySlot("run", lines_of(asked.answers.of(["run", str(asked.number)], asked.data)[1]))
     if not is_apart:
         return not_shown("the groups before this one can't be kept apart from it, as in a loop")
     positions = asked.reached()
@@ -91,4 +91,4 @@ def beside_group(asked, is_apart):
         printed = asked.groups(parted.text, asked.number - 1 + len(positions), 0)
     except Fault as fault:
         return not_shown(str(fault))
-    return Beside("slot by slot", told(printed, parted, asked.after))
+    return SlotBySlot("slot by slot", told(printed, parted, asked.after))
