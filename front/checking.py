@@ -10,7 +10,7 @@ from front.faults import Fault, ProgramFault, Unread
 from front.files import Kind
 from front.judging import NOT_JUDGED, VIOLATED, Judge
 from front.content import read_file
-from front.reports import form_of, known_by
+from front.reports import writer_of, known_by
 
 # Statuses: as wanted; a violation; words or files that can't be read, or no answer; and not judged, where that is strict.
 DONE, FOUND, WRONG, UNJUDGED = 0, 1, 2, 3
@@ -32,7 +32,7 @@ class BatchAnswer(NamedTuple):
 
 def check(options, program):
     """The verdicts on files."""
-    form, counts, number, is_first = form_of(options.format), reports.Counts(), 0, True
+    writer, counts, number, is_first = writer_of(options.format), reports.Counts(), 0, True
     try:
         known = baseline(options.baseline)
     except Fault as fault:
@@ -41,17 +41,17 @@ def check(options, program):
     for number, given in enumerate(batch_answers(options, program, known), 1):
         clear_progress()
         if number == 1:
-            sys.stdout.write(form.head)
+            sys.stdout.write(writer.head)
         for line in given.said:
             print(line, file=sys.stderr)
         for row in given.rows:
-            sys.stdout.write((form.first if is_first else form.between) + row)
+            sys.stdout.write((writer.first if is_first else writer.between) + row)
             is_first = False
         sys.stdout.flush()
         counts.add_all(given.counts)
         show_progress(number, counts)
     clear_progress()
-    sys.stdout.write(("" if number else form.head) + form.tail(counts))
+    sys.stdout.write(("" if number else writer.head) + writer.tail(counts))
     return status(counts, options)
 
 
@@ -147,7 +147,7 @@ def answered_whole(batch, options, program, known):
         if answer.file.fault is not None and not answer.findings:
             said.append(f"ia64: {answer.file.label}: {answer.file.fault}")
         counts.add(answer)
-        rows += form_of(options.format).rows(without_known(answer, known, counts))
+        rows += writer_of(options.format).rows(without_known(answer, known, counts))
     return BatchAnswer(rows, counts, said)
 
 

@@ -52,7 +52,7 @@ def check_options(parser):
     parser.add_argument("-v", "--verbose", action="store_true",
                        help="a line for every function, every instruction outside the profile, every bundle on no "
                             "walk, and the declared entries")
-    parser.add_argument("--format", choices=reports.FORMS, default="lines",
+    parser.add_argument("--format", choices=reports.FORMATS, default="lines",
                        help="lines as compilers print them, one JSON document, or a SARIF log")
     parser.add_argument("--baseline", metavar="PATH",
                        help="errors that are among the lines of this earlier answer are left out, and don't count for the status")
@@ -96,9 +96,9 @@ def draw_options(parser):
 
 
 def picture_path(text):
-    forms = pictures().FORMS
-    if os.path.splitext(text)[1] not in forms:
-        raise argparse.ArgumentTypeError(f"{text} ends with none of {', '.join(forms)}")
+    suffixes = pictures().DRAWERS
+    if os.path.splitext(text)[1] not in suffixes:
+        raise argparse.ArgumentTypeError(f"{text} ends with none of {', '.join(suffixes)}")
     return text
 
 
@@ -315,7 +315,7 @@ def draw(options, program):
     """The picture of a program, or of functions of a file of code."""
     if not options.output and sys.stdout.isatty():
         raise Fault("a picture is no text for a terminal: -o x.svg or -o x.html says where it goes")
-    if options.trace is not None and form_of(options) != ".html":
+    if options.trace is not None and suffix_of(options) != ".html":
         options.misused("--trace tells a run in a page: -o x.html makes one")
     source = one_file(options.file, options.syscalls)
     file = built(source, options, program) if source.kind is Kind.TEXT else source
@@ -327,8 +327,8 @@ def draw(options, program):
     return DONE
 
 
-def form_of(options):
-    """The suffix of the form that is drawn."""
+def suffix_of(options):
+    """The suffix of the picture that is drawn."""
     return os.path.splitext(options.output)[1] if options.output else ".svg"
 
 
@@ -337,7 +337,7 @@ def drawn_code(file, options, program):
     if options.trace is not None:
         raise Fault(f"--trace tells a program's run, and functions aren't run; {OF_A_CALL}")
     functions, drawing = chosen_functions(file, options.functions), pictures()
-    return drawing.FORMS[form_of(options)](drawing.of_code(file, functions, Judge(program, verbose=True), is_proved()))
+    return drawing.DRAWERS[suffix_of(options)](drawing.of_code(file, functions, Judge(program, verbose=True), is_proved()))
 
 
 def drawn_program(file, source, options, program):
@@ -346,9 +346,9 @@ def drawn_program(file, source, options, program):
         raise Fault("a program, which has no functions with names")
     drawing, groups = pictures(), usage.TRACE_LIMIT if options.trace is None else options.trace
     figure = drawing.of_program(file, source, program, is_proved())
-    if form_of(options) == ".html":
+    if suffix_of(options) == ".html":
         return drawing.page_of_program(figure, file, source, program, groups)
-    return drawing.FORMS[form_of(options)]([figure])
+    return drawing.DRAWERS[suffix_of(options)]([figure])
 
 
 def chosen_functions(file, names):

@@ -97,7 +97,7 @@ class Sarif:
         return f'\n], "invocations": [{json.dumps(call)}]}}]}}\n'
 
 
-FORMS = {"json": Json, "sarif": Sarif}
+WRITERS = {"json": Json, "sarif": Sarif}
 
 
 def result(file, finding):

@@ -38,7 +38,7 @@ import functools
 from typing import Dict, List, NamedTuple, Tuple
 
 from front.bundle import NOPS, UNITS, Bundle, branches, slots_of, stops_behind, with_branch
-from front.stand_ins import (ADD, COMPARES, REMEMBERED, STORE, Kind, NoStandIn, Pattern, Row, operand, row_of, rows_of,
+from front.stand_ins import (ADD, COMPARES, REMEMBERED, STORE, Effect, NoStandIn, Pattern, Row, operand, row_of, rows_of,
                              stand_in, stood_in)
 
 # So many slots the program takes without a stop.
@@ -314,12 +314,12 @@ class Mapper:
             return []
         sources, targets = (list(dict.fromkeys([*own, *(self.registers[name] for name in names)])) for own, names in
                             ((operands.reads, operands.mapped_reads), (operands.writes, operands.mapped_writes)))
-        kind, last = row_of(unit, word).kind, Piece(*stand_in(unit, word))
-        if kind is Kind.CHECK:
+        effect, last = row_of(unit, word).effect, Piece(*stand_in(unit, word))
+        if effect is Effect.CHECK:
             return [last._replace(word=last.word | sources[0] << 13)]
         made = transfers(sources, targets, guard)
-        if kind in COMPARES:
-            made += [writing(register, guard=0 if kind is Kind.UNC else guard) for register in predicates] + [last]
+        if effect in COMPARES:
+            made += [writing(register, guard=0 if effect is Effect.UNC else guard) for register in predicates] + [last]
         return made
 
     def guard_reads(self, unit, word):

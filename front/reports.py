@@ -148,12 +148,12 @@ class Lines:
         return "".join(f"{line}\n" for line in counts.lines())
 
 
-FORMS = ("lines", "json", "sarif")
+FORMATS = ("lines", "json", "sarif")
 
 
-def form_of(name):
+def writer_of(name):
     """How answers are written."""
     if name == "lines":
         return Lines
     from front import documents  # which most calls don't need
-    return documents.FORMS[name]
+    return documents.WRITERS[name]

@@ -165,7 +165,7 @@ def values_of(text):
 
 # ---- The table ------------------------------------------------------------------------------------------------------------
 
-class Kind(Enum):
+class Effect(Enum):
     """What an instruction does beside reading and writing registers."""
     PLAIN = "nothing"
     NORMAL = "it compares, and writes both predicates where its guard is 1"
@@ -181,7 +181,7 @@ class Kind(Enum):
     NONE = "nothing stands in for it"
 
 
-COMPARES = (Kind.NORMAL, Kind.UNC, Kind.AND, Kind.OR, Kind.OR_ANDCM)
+COMPARES = (Effect.NORMAL, Effect.UNC, Effect.AND, Effect.OR, Effect.OR_ANDCM)
 
 # What a row may read and write that the profile has registers for. All else that it names, no stand-in looks at.
 SEEN = frozenset(("r1", "r2", "r3", "p1", "p2", "b1"))
@@ -192,12 +192,12 @@ UNSEEN = {"f1": "floating-point registers", "f2": "floating-point registers", "f
 
 class Row(NamedTuple):
     """An instruction outside the profile, or a family whose completers change nothing that is read or written."""
-    form: str                          # the number of its format
+    format: str                        # the number of its format
     units: str
     mnemonic: str                      # all of a family's, and pseudo-operations too, with `/` between them
     writes: Tuple[str, ...]            # operands, and what else it writes
     reads: Tuple[str, ...]
-    kind: Kind
+    effect: Effect
     none: str                          # why nothing stands in for it, or nothing
     pattern: Pattern
 
@@ -216,10 +216,10 @@ class Row(NamedTuple):
                 and len({(name[0], number) for name, number in targets}) == len(targets))
 
 
-def row(form, text, mnemonic, writes="", reads="", kind=Kind.PLAIN, none=""):
-    units = "mi" if form[0] == "A" else form[0].lower()
-    return Row(form, units, mnemonic, tuple(writes.split()), tuple(reads.split()), Kind.NONE if none else kind, none,
-               Pattern(FORMATS[form], text))
+def row(format_number, text, mnemonic, writes="", reads="", effect=Effect.PLAIN, none=""):
+    units = "mi" if format_number[0] == "A" else format_number[0].lower()
+    return Row(format_number, units, mnemonic, tuple(writes.split()), tuple(reads.split()), Effect.NONE if none else effect, none,
+               Pattern(FORMATS[format_number], text))
 
 
 INTEGER_LOADS, INTEGER_STORES = "0-17/1B/20-2B", "30-37/3B"
@@ -271,28 +271,28 @@ ROWS = (
     row("I8", "op 7, za 0, x2a 3, zb 1, ve 0, x2c 1, x2b 1", "pshl2", "r1", "r2"),
     row("I8", "op 7, za 1, x2a 3, zb 0, ve 0, x2c 1, x2b 1", "pshl4", "r1", "r2"),
     row("I9", "op 7, za 0, x2a 1, zb 1, ve 0, x2c 3, x2b 1", "clz", "r1", "r3"),
-    row("I16", "op 5, x2 0, tb 1, ta 0, y 0", "tbit", "p1 p2", "r3", Kind.AND),
-    row("I16", "op 5, x2 0, tb 0, ta 1, y 0", "tbit", "p1 p2", "r3", Kind.OR),
-    row("I16", "op 5, x2 0, tb 1, ta 1, y 0", "tbit", "p1 p2", "r3", Kind.OR_ANDCM),
-    row("I17", "op 5, x2 0, tb 1, ta 0, y 1", "tnat", "p1 p2", "r3", Kind.AND),
-    row("I17", "op 5, x2 0, tb 0, ta 1, y 1", "tnat", "p1 p2", "r3", Kind.OR),
-    row("I17", "op 5, x2 0, tb 1, ta 1, y 1", "tnat", "p1 p2", "r3", Kind.OR_ANDCM),
+    row("I16", "op 5, x2 0, tb 1, ta 0, y 0", "tbit", "p1 p2", "r3", Effect.AND),
+    row("I16", "op 5, x2 0, tb 0, ta 1, y 0", "tbit", "p1 p2", "r3", Effect.OR),
+    row("I16", "op 5, x2 0, tb 1, ta 1, y 0", "tbit", "p1 p2", "r3", Effect.OR_ANDCM),
+    row("I17", "op 5, x2 0, tb 1, ta 0, y 1", "tnat", "p1 p2", "r3", Effect.AND),
+    row("I17", "op 5, x2 0, tb 0, ta 1, y 1", "tnat", "p1 p2", "r3", Effect.OR),
+    row("I17", "op 5, x2 0, tb 1, ta 1, y 1", "tnat", "p1 p2", "r3", Effect.OR_ANDCM),
     row("I26", f"op 0, x3 0, x6 2A, ar3 {IGNORED}", "mov.i", "ar3", "r2"),
     row("I27", f"op 0, x3 0, x6 0A, ar3 {IGNORED}", "mov.i", "ar3"),
     row("I28", f"op 0, x3 0, x6 32, ar3 {IGNORED}", "mov.i", "r1", "ar3"),
     row("I29", "op 0, x3 0, x6 18/1C", "czx1", "r1", "r3"),
     row("I29", "op 0, x3 0, x6 19/1D", "czx2", "r1", "r3"),
-    row("I30", "op 5, x2 0, tb 0, ta 0, x 1, y 1, c 0", "tf", "p1 p2", "", Kind.NORMAL),
-    row("I30", "op 5, x2 0, tb 0, ta 0, x 1, y 1, c 1", "tf", "p1 p2", "", Kind.UNC),
-    row("I30", "op 5, x2 0, tb 1, ta 0, x 1, y 1", "tf", "p1 p2", "", Kind.AND),
-    row("I30", "op 5, x2 0, tb 0, ta 1, x 1, y 1", "tf", "p1 p2", "", Kind.OR),
-    row("I30", "op 5, x2 0, tb 1, ta 1, x 1, y 1", "tf", "p1 p2", "", Kind.OR_ANDCM),
+    row("I30", "op 5, x2 0, tb 0, ta 0, x 1, y 1, c 0", "tf", "p1 p2", "", Effect.NORMAL),
+    row("I30", "op 5, x2 0, tb 0, ta 0, x 1, y 1, c 1", "tf", "p1 p2", "", Effect.UNC),
+    row("I30", "op 5, x2 0, tb 1, ta 0, x 1, y 1", "tf", "p1 p2", "", Effect.AND),
+    row("I30", "op 5, x2 0, tb 0, ta 1, x 1, y 1", "tf", "p1 p2", "", Effect.OR),
+    row("I30", "op 5, x2 0, tb 1, ta 1, x 1, y 1", "tf", "p1 p2", "", Effect.OR_ANDCM),
 
-    row("M1", f"op 4, m 0, x 0, x6 {INTEGER_LOADS}, hint 2, d 0", "ld1/ld2/ld4/ld8", "r1", "r3", Kind.HINT),
-    row("M1", f"op 4, m 0, x 0, x6 {INTEGER_LOADS}, d 1", "ld1/ld2/ld4/ld8", "r1", "r3", Kind.HINT),
+    row("M1", f"op 4, m 0, x 0, x6 {INTEGER_LOADS}, hint 2, d 0", "ld1/ld2/ld4/ld8", "r1", "r3", Effect.HINT),
+    row("M1", f"op 4, m 0, x 0, x6 {INTEGER_LOADS}, d 1", "ld1/ld2/ld4/ld8", "r1", "r3", Effect.HINT),
     row("M1", "op 4, m 0, x 1, x6 28/2C", "ld16", "r1 ar.csd", "r3"),
-    row("M4", f"op 4, m 0, x 0, x6 {INTEGER_STORES}, hint 1/2, d 0", "st1/st2/st4/st8", "", "r3 r2", Kind.HINT),
-    row("M4", f"op 4, m 0, x 0, x6 {INTEGER_STORES}, d 1", "st1/st2/st4/st8", "", "r3 r2", Kind.HINT),
+    row("M4", f"op 4, m 0, x 0, x6 {INTEGER_STORES}, hint 1/2, d 0", "st1/st2/st4/st8", "", "r3 r2", Effect.HINT),
+    row("M4", f"op 4, m 0, x 0, x6 {INTEGER_STORES}, d 1", "st1/st2/st4/st8", "", "r3 r2", Effect.HINT),
     row("M4", "op 4, m 0, x 1, x6 30/34", "st16", "", "r3 r2 ar.csd"),
     row("M6", f"op 6, m 0, x 0, x6 {LOADS}", "ldfe/ldf8/ldfs/ldfd/ldf.fill", "f1", "r3"),
     row("M7", f"op 6, m 1, x 0, x6 {LOADS}, hint 0/1/3", "ldfe/ldf8/ldfs/ldfd/ldf.fill", "f1 r3", "r3 r2"),
@@ -312,8 +312,8 @@ ROWS = (
     row("M16", "op 4, m 0, x 1, x6 20/24, hint 0/1/3", "cmp8xchg16", "r1", "r3 r2 ar.csd ar.ccv"),
     row("M18", "op 6, m 0, x 1, x6 1C-1F", "setf", "f1", "r2"),
     row("M19", "op 4, m 0, x 1, x6 1C-1F", "getf", "r1", "f2"),
-    row("M21", "op 1, x3 3", "chk.s", "", "f2", Kind.CHECK),
-    row("M23", "op 0, x3 6/7", "chk.a", "", "", Kind.CHECK),
+    row("M21", "op 1, x3 3", "chk.s", "", "f2", Effect.CHECK),
+    row("M23", "op 0, x3 6/7", "chk.a", "", "", Effect.CHECK),
     row("M24", "op 0, x3 0, x2 2, x4 0", "fwb"),
     row("M24", "op 0, x3 0, x2 2, x4 3", "mf.a"),
     row("M24", "op 0, x3 0, x2 3, x4 0", "srlz.d", "", "system"),
@@ -360,7 +360,7 @@ ROWS = (
     row("B4", "op 0, x6 20, btype 1", "br.ia", "", "b2", none="it goes on as code of another instruction set"),
     row("B6", "op 7", "brp"),
     row("B7", "op 2, x6 10/11, wh 0/2", "brp", "", "b2"),
-    row("B8", "op 0, x6 2", "cover", kind=Kind.CLEAR),
+    row("B8", "op 0, x6 2", "cover", effect=Effect.CLEAR),
     row("B8", "op 0, x6 8", "rfi", none="it restores the place, the frame and the status of what was interrupted"),
     row("B8", "op 0, x6 0C/0D", "bsw", none="it changes which registers r16 to r31 are"),
     row("B8", "op 0, x6 10", "epc", none="it reads ar.pfs, and is no return"),
@@ -377,14 +377,14 @@ ROWS = (
     row("F1", "op D, x 1", "fpnma/fpnmpy", "f1 fpsr", "f3 f4 f2 fpsr"),
     row("F2", "op E, x 1, x2 0/2/3", "xma/xmpy", "f1", "f3 f4 f2"),
     row("F3", "op E, x 0", "fselect", "f1", "f3 f4 f2"),
-    row("F4", "op 4, ta 0", "fcmp", "p1 p2 fpsr", "f2 f3 fpsr", Kind.NORMAL),
-    row("F4", "op 4, ta 1", "fcmp", "p1 p2 fpsr", "f2 f3 fpsr", Kind.UNC),
-    row("F5", "op 5, ta 0", "fclass", "p1 p2", "f2", Kind.NORMAL),
-    row("F5", "op 5, ta 1", "fclass", "p1 p2", "f2", Kind.UNC),
-    row("F6", "op 0, x 1, q 0", "frcpa", "f1 p2 fpsr", "f2 f3 fpsr", Kind.UNC),
-    row("F6", "op 1, x 1, q 0", "fprcpa", "f1 p2 fpsr", "f2 f3 fpsr", Kind.UNC),
-    row("F7", "op 0, x 1, q 1", "frsqrta", "f1 p2 fpsr", "f3 fpsr", Kind.UNC),
-    row("F7", "op 1, x 1, q 1", "fprsqrta", "f1 p2 fpsr", "f3 fpsr", Kind.UNC),
+    row("F4", "op 4, ta 0", "fcmp", "p1 p2 fpsr", "f2 f3 fpsr", Effect.NORMAL),
+    row("F4", "op 4, ta 1", "fcmp", "p1 p2 fpsr", "f2 f3 fpsr", Effect.UNC),
+    row("F5", "op 5, ta 0", "fclass", "p1 p2", "f2", Effect.NORMAL),
+    row("F5", "op 5, ta 1", "fclass", "p1 p2", "f2", Effect.UNC),
+    row("F6", "op 0, x 1, q 0", "frcpa", "f1 p2 fpsr", "f2 f3 fpsr", Effect.UNC),
+    row("F6", "op 1, x 1, q 0", "fprcpa", "f1 p2 fpsr", "f2 f3 fpsr", Effect.UNC),
+    row("F7", "op 0, x 1, q 1", "frsqrta", "f1 p2 fpsr", "f3 fpsr", Effect.UNC),
+    row("F7", "op 1, x 1, q 1", "fprsqrta", "f1 p2 fpsr", "f3 fpsr", Effect.UNC),
     row("F8", "op 0, x 0, x6 14", "fmin", "f1 fpsr", "f2 f3 fpsr"),
     row("F8", "op 0, x 0, x6 15", "fmax", "f1 fpsr", "f2 f3 fpsr"),
     row("F8", "op 0, x 0, x6 16", "famin", "f1 fpsr", "f2 f3 fpsr"),
@@ -409,11 +409,11 @@ ROWS = (
     row("F11", "op 0, x 0, x6 1C", "fcvt.xf", "f1", "f2"),
     row("F12", "op 0, x 0, x6 4", "fsetc", "fpsr", "fpsr"),
     row("F13", "op 0, x 0, x6 5", "fclrf", "fpsr"),
-    row("F14", "op 0, x 0, x6 8", "fchkf", "", "fpsr", Kind.CHECK),
+    row("F14", "op 0, x 0, x6 8", "fchkf", "", "fpsr", Effect.CHECK),
     row("F16", "op 0, x 0, x6 1, y 1", "hint.f"),
 
-    row("X3", "op C, btype 0", "brl", "", "", Kind.BRANCH),
-    row("X4", "op D", "brl.call", "b1", "", Kind.CALL),
+    row("X3", "op C, btype 0", "brl", "", "", Effect.BRANCH),
+    row("X4", "op D", "brl.call", "b1", "", Effect.CALL),
     row("X5", "op 0, x 0, x6 1, y 1", "hint.x"),
 )
 
@@ -444,7 +444,7 @@ class Shape(NamedTuple):
     """Which instruction of the profile stands in for those that write just this, and read no more than this, of what the
     profile has. Its operands stand where theirs do."""
     units: str
-    kind: Kind
+    effect: Effect
     writes: str
     reads: str
     unit: str
@@ -464,36 +464,36 @@ UNC_BIT = 1 << 12
 NO_OPERAND = ""
 
 SHAPES = (
-    Shape("m", Kind.PLAIN, "", NO_OPERAND, "m", NOPS["m"]),
-    Shape("m", Kind.PLAIN, "", "r3 r2", "m", STORE),
-    Shape("m", Kind.PLAIN, "r3", "r3 r2", "m", STORE_AND_UPDATE),
-    Shape("m", Kind.PLAIN, "r1", "r3 r2", "m", ADD),
-    Shape("m", Kind.CHECK, "", NO_OPERAND, "m", 1 << 37 | 1 << 33),           # chk.s.m r0,target
-    Shape("i", Kind.PLAIN, "", NO_OPERAND, "i", NOPS["i"]),
-    Shape("i", Kind.PLAIN, "", "r2", "i", MOVE_TO_NO_PREDICATE),
-    Shape("i", Kind.PLAIN, "r1", "r3 r2", "i", ADD),
-    Shape("if", Kind.NORMAL, "p1 p2", NO_OPERAND, "i", compare(0xE, 0)),
-    Shape("if", Kind.UNC, "p1 p2", NO_OPERAND, "i", compare(0xE, 0) | UNC_BIT),
-    Shape("f", Kind.UNC, "p2", NO_OPERAND, "i", compare(0xE, 0) | UNC_BIT),
-    Shape("i", Kind.AND, "p1 p2", "r3", "i", compare(0xC, 1)),
-    Shape("i", Kind.OR, "p1 p2", "r3", "i", compare(0xD, 1)),
-    Shape("i", Kind.OR_ANDCM, "p1 p2", "r3", "i", compare(0xE, 1)),
-    Shape("f", Kind.PLAIN, "", NO_OPERAND, "f", NOPS["f"]),
-    Shape("f", Kind.CHECK, "", NO_OPERAND, "i", 1 << 33),                     # chk.s.i r0,target
-    Shape("b", Kind.PLAIN, "", NO_OPERAND, "b", NOPS["b"]),
+    Shape("m", Effect.PLAIN, "", NO_OPERAND, "m", NOPS["m"]),
+    Shape("m", Effect.PLAIN, "", "r3 r2", "m", STORE),
+    Shape("m", Effect.PLAIN, "r3", "r3 r2", "m", STORE_AND_UPDATE),
+    Shape("m", Effect.PLAIN, "r1", "r3 r2", "m", ADD),
+    Shape("m", Effect.CHECK, "", NO_OPERAND, "m", 1 << 37 | 1 << 33),           # chk.s.m r0,target
+    Shape("i", Effect.PLAIN, "", NO_OPERAND, "i", NOPS["i"]),
+    Shape("i", Effect.PLAIN, "", "r2", "i", MOVE_TO_NO_PREDICATE),
+    Shape("i", Effect.PLAIN, "r1", "r3 r2", "i", ADD),
+    Shape("if", Effect.NORMAL, "p1 p2", NO_OPERAND, "i", compare(0xE, 0)),
+    Shape("if", Effect.UNC, "p1 p2", NO_OPERAND, "i", compare(0xE, 0) | UNC_BIT),
+    Shape("f", Effect.UNC, "p2", NO_OPERAND, "i", compare(0xE, 0) | UNC_BIT),
+    Shape("i", Effect.AND, "p1 p2", "r3", "i", compare(0xC, 1)),
+    Shape("i", Effect.OR, "p1 p2", "r3", "i", compare(0xD, 1)),
+    Shape("i", Effect.OR_ANDCM, "p1 p2", "r3", "i", compare(0xE, 1)),
+    Shape("f", Effect.PLAIN, "", NO_OPERAND, "f", NOPS["f"]),
+    Shape("f", Effect.CHECK, "", NO_OPERAND, "i", 1 << 33),                     # chk.s.i r0,target
+    Shape("b", Effect.PLAIN, "", NO_OPERAND, "b", NOPS["b"]),
     # `cover` writes the frame as `clrrrb` does, and both have to be the last of their group.
-    Shape("b", Kind.CLEAR, "", NO_OPERAND, "b", 4 << 27),                     # clrrrb
-    Shape("x", Kind.PLAIN, "", NO_OPERAND, "x", NOPS["x"]),
-    Shape("x", Kind.BRANCH, "", NO_OPERAND, "b", 4 << 37),                    # br.cond.sptk.few target
-    Shape("x", Kind.CALL, "b1", NO_OPERAND, "b", 5 << 37),                    # br.call.sptk.few b1=target
+    Shape("b", Effect.CLEAR, "", NO_OPERAND, "b", 4 << 27),                     # clrrrb
+    Shape("x", Effect.PLAIN, "", NO_OPERAND, "x", NOPS["x"]),
+    Shape("x", Effect.BRANCH, "", NO_OPERAND, "b", 4 << 37),                    # br.cond.sptk.few target
+    Shape("x", Effect.CALL, "b1", NO_OPERAND, "b", 5 << 37),                    # br.call.sptk.few b1=target
 )
 
 
 def shape_of(entry, unit):
-    """The shape of a row in a slot of this unit. A row has one where its kind is neither `HINT` nor `NONE`."""
+    """The shape of a row in a slot of this unit. A row has one where its effect is neither `HINT` nor `NONE`."""
     writes = " ".join(name for name in entry.writes if name in SEEN)
     reads = {name for name in entry.reads if name in SEEN}
-    return next(shape for shape in SHAPES if unit in shape.units and shape.kind is entry.kind
+    return next(shape for shape in SHAPES if unit in shape.units and shape.effect is entry.effect
                 and shape.writes == writes and reads <= set(shape.reads.split()))
 
 
@@ -515,18 +515,18 @@ def stand_in(unit, word):
     """The unit and the word of what stands in for an instruction that has a row. The displacement of a long branch is left
     out."""
     entry = row_of(unit, word)
-    if entry.kind is Kind.HINT:
+    if entry.effect is Effect.HINT:
         hints = [entry.pattern.fields[name] for name in ("hint", "d")]
         return unit, word & ~sum((1 << bits) - 1 << low for low, bits in hints)
     shape = shape_of(entry, unit)
     targets = [name for name in entry.writes if name in SEEN]
-    if entry.kind in COMPARES and not any(operand(name, word) for name in targets):
+    if entry.effect in COMPARES and not any(operand(name, word) for name in targets):
         # What writes no predicate but p0 writes none, and the profile has no such compare.
         return unit, NOPS[unit] | operand("qp", word)
     sources = [name for name in entry.reads if name in SEEN]
     guard = ["qp"] if "qp" in entry.pattern.fields else []
     made = shape.word | copied(targets + sources + guard, word)
-    if entry.kind is Kind.CHECK:
+    if entry.effect is Effect.CHECK:
         away = displacement(displacement_layout(unit, word), word)
         made = with_displacement(displacement_layout(shape.unit, shape.word), made, away)
     return shape.unit, made

@@ -9,7 +9,7 @@ from front.faults import Fault, printable
 # How many arguments a call may have, how many of them are in registers, and how many bytes a buffer may have.
 MOST_ARGUMENTS, IN_REGISTERS, MOST_BYTES = 64, 8, 1 << 20
 
-FORMS = """\
+ARGUMENT_FORMS = """\
 An ARG is
   a number         42, 0x2a, -7, or 'c' for that of a character
   "TEXT"           the address of the text with a zero behind it, with the escapes of C; in a shell '"TEXT"'
@@ -59,8 +59,8 @@ def argument_of(word):
         return Argument(word, content=bytes(size_of(word[1:])))
     if word.startswith("&"):
         return named(word)
-    if mark and kind in FORMS_OF:
-        return FORMS_OF[kind](word, rest)
+    if mark and kind in READERS:
+        return READERS[kind](word, rest)
     return Argument(word, number=number_of(word, 8))
 
 
@@ -169,4 +169,4 @@ def sized(argument):
     return argument
 
 
-FORMS_OF = {"str": plain_text, "hex": hexadecimal, "file": from_file, **{f"data{unit}": numbers(unit) for unit in (1, 2, 4, 8)}}
+READERS = {"str": plain_text, "hex": hexadecimal, "file": from_file, **{f"data{unit}": numbers(unit) for unit in (1, 2, 4, 8)}}

@@ -7,7 +7,7 @@ import sys
 from front import usage
 from front.calling import answer as answers
 from front.calling import image, linking
-from front.calling.arguments import FORMS, arguments_of
+from front.calling.arguments import ARGUMENT_FORMS, arguments_of
 from front.calling.ends import Names
 from front.calling.call_trace import CallTrace
 from front.checking import WRONG, complain
@@ -27,7 +27,7 @@ def add_options(parser, number):
     """Adds the options of the command; `number` reads a number from one to another."""
     parser.formatter_class = argparse.RawDescriptionHelpFormatter
     parser.usage = f"{parser.prog} [OPTION..] FILE FUNCTION [ARG..]"
-    parser.epilog = FORMS
+    parser.epilog = ARGUMENT_FORMS
     parser.add_argument("file", metavar="FILE",
                         help="an ELF object file of 64 bits, an archive of them, or a source for the GNU assembler")
     parser.add_argument("function", nargs="?", metavar="FUNCTION",

@@ -3,7 +3,7 @@ loads and stores. Where they are left out, what else they do stays: the base is 
 hint."""
 
 from front.bundle import NOPS
-from front.stand_ins import Kind, row_of, stand_in
+from front.stand_ins import Effect, row_of, stand_in
 
 LINE_FETCHES = {"M13", "M13 count", "M14", "M15"}
 PREDICTIONS = {"B6", "B7"}
@@ -17,8 +17,8 @@ def hint_row(bundle, slot):
     row = row_of(unit, word)
     if row is None:
         return None
-    is_fetch = row.form in LINE_FETCHES and not word & FAULTING
-    return row if is_fetch or row.form in PREDICTIONS or row.kind is Kind.HINT else None
+    is_fetch = row.format in LINE_FETCHES and not word & FAULTING
+    return row if is_fetch or row.format in PREDICTIONS or row.effect is Effect.HINT else None
 
 
 def is_hint(bundle, slot):
@@ -31,10 +31,10 @@ def without_hint(bundle, slot):
     if row is None:
         return None
     unit, word = bundle.units[slot], bundle.words[slot]
-    if row.kind is Kind.HINT:
+    if row.effect is Effect.HINT:
         return bundle.with_word(slot, stand_in(unit, word)[1])
     guard = word & 63 if "qp" in row.pattern.fields else 0
-    return bundle.with_word(slot, {"M14": added_register, "M15": added_number}.get(row.form, nop(unit))(word) | guard)
+    return bundle.with_word(slot, {"M14": added_register, "M15": added_number}.get(row.format, nop(unit))(word) | guard)
 
 
 def nop(unit):

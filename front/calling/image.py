@@ -25,7 +25,7 @@ from front.faults import Fault, ProgramFault, printable
 from front.flow import turns_of
 from front.functions import MOST_ENTRIES
 from front.program import refusal_of
-from front.stand_ins import Kind, rows_of
+from front.stand_ins import Effect, rows_of
 
 # Bytes at the top of the stack that a called function may use, and behind and in front of what each argument points to.
 SCRATCH, GAP, FRONT = 16, 16, 64
@@ -288,7 +288,7 @@ def put_breaks(made, index, skip_hints):
         if without is not None:
             made.bundles[index] = without
             continue
-        made.put_break(index, slot, Stopped(Stop.OUTSIDE), row.kind is Kind.UNC or "qp" not in row.pattern.fields)
+        made.put_break(index, slot, Stopped(Stop.OUTSIDE), row.effect is Effect.UNC or "qp" not in row.pattern.fields)
     for slot, away in branches(bundle):
         if (index, slot) not in made.stops and not 0 <= index + away < len(made.bundles):
             made.put_break(index, slot, Stopped(Stop.ASTRAY))

@@ -12,7 +12,7 @@ from front.drawing import of_functions, of_programs, page, runs, svg
 from front.judging import ACCEPTED
 
 # By the suffix of the file where a picture goes.
-FORMS = {".svg": svg.document, ".html": page.document}
+DRAWERS = {".svg": svg.document, ".html": page.document}
 
 
 def of_program(file, source, program, is_proved):

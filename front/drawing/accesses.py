@@ -12,7 +12,7 @@ import re
 import sys
 from typing import FrozenSet, Iterable, NamedTuple
 
-from front.stand_ins import Kind, Row, operand
+from front.stand_ins import Effect, Row, operand
 
 NO_NAMES: FrozenSet[str] = frozenset()
 
@@ -151,19 +151,19 @@ def accesses_outside(row: Row, word):
     reads, writes = (set(filter(None, (name_of(row, name, word) for name in names))) for names in (row.reads, row.writes))
     number = operand("qp", word) if "qp" in row.pattern.fields else 0
     guard = f"p{number}" if number else ""
-    if row.kind is Kind.CALL:
+    if row.effect is Effect.CALL:
         reads |= {"cfm", "ec"}
         writes |= {"cfm", "pfs"}
-    elif row.kind is Kind.CLEAR:
+    elif row.effect is Effect.CLEAR:
         writes.add("cfm")
-    elif row.kind is Kind.HINT and field(row, "x6", word) in (FILL, SPILL):
+    elif row.effect is Effect.HINT and field(row, "x6", word) in (FILL, SPILL):
         (reads if field(row, "x6", word) == FILL else writes).add("unat")
     if guard:
         reads.add(guard)
     if any(map(is_framed, reads | writes)):
         reads.add("cfm")
-    is_branch = row.kind in (Kind.BRANCH, Kind.CALL)
-    always = {guard, "cfm", *(name for name in writes if row.kind is Kind.UNC and name[0] == "p")}
+    is_branch = row.effect in (Effect.BRANCH, Effect.CALL)
+    always = {guard, "cfm", *(name for name in writes if row.effect is Effect.UNC and name[0] == "p")}
     return Accesses(guard, frozenset(reads), frozenset(writes), frozenset({guard} & reads if is_branch else ()),
                     frozenset(always & (reads | writes)))
 

@@ -14,7 +14,7 @@ import re
 from typing import NamedTuple
 
 from front.sources.instructions import NEGATED_KINDS
-from front.stand_ins import COMPARES, LAST, PLACES, ROWS, Kind
+from front.stand_ins import COMPARES, LAST, PLACES, ROWS, Effect
 
 # What may stand behind a mnemonic's name.
 COMPLETERS = frozenset("""
@@ -23,8 +23,8 @@ COMPLETERS = frozenset("""
     exit imp rw w uus uuu raz d1 d2 d3 d4 d5 d6 d7 0 1
     """.split())
 MOVES = ("mov.m", "mov.i")
-KINDS = {"unc": Kind.UNC, "and": Kind.AND, "or": Kind.OR, "or.andcm": Kind.OR_ANDCM}
-TARGETED = (Kind.CHECK, Kind.BRANCH, Kind.CALL)
+EFFECTS = {"unc": Effect.UNC, "and": Effect.AND, "or": Effect.OR, "or.andcm": Effect.OR_ANDCM}
+TARGETED = (Effect.CHECK, Effect.BRANCH, Effect.CALL)
 PARALLEL = re.compile(r"\.(unc|and\.orcm|or\.andcm|andcm|orcm|and|or)(?=\.|$)")
 
 # Registers of the profile by names that tell no number, and application registers.
@@ -65,7 +65,7 @@ class Misfit(Exception):
 def outside(mnemonic, guard, left, right, has_target):
     """An instruction of the table, by its operands on both sides of the `=`, or None."""
     for row in rows_of(mnemonic):
-        if has_target == (row.kind in TARGETED):
+        if has_target == (row.effect in TARGETED):
             try:
                 word = Filled(row, mnemonic).word(guard, left, right)
             except Misfit:
@@ -92,7 +92,7 @@ def rows_of(mnemonic):
     kind. A move to or from an application register may lack the letter of its unit."""
     found, longest = [], ""
     for row in ROWS:
-        for name in row.mnemonic.split("/") if row.kind is not Kind.HINT and row.none != LAST else ():
+        for name in row.mnemonic.split("/") if row.effect is not Effect.HINT and row.none != LAST else ():
             whole = name[:-2] if name in MOVES and mnemonic == "mov" else name
             if mnemonic != whole and not mnemonic.startswith(f"{whole}.") or len(whole) < len(longest):
                 continue
@@ -100,10 +100,10 @@ def rows_of(mnemonic):
     further = mnemonic[len(longest) + 1:]
     if further and not all(word in COMPLETERS for word in further.split(".")):
         return []
-    kinds = {row.kind for row in found}
+    effects = {row.effect for row in found}
     parallel = PARALLEL.search(mnemonic)
-    wanted = KINDS[NEGATED_KINDS.get(parallel[1], parallel[1])] if parallel else Kind.NORMAL
-    return [row for row in found if row.kind not in COMPARES or kinds == {Kind.UNC} or row.kind is wanted]
+    wanted = EFFECTS[NEGATED_KINDS.get(parallel[1], parallel[1])] if parallel else Effect.NORMAL
+    return [row for row in found if row.effect not in COMPARES or effects == {Effect.UNC} or row.effect is wanted]
 
 
 class Filled:
@@ -128,7 +128,7 @@ class Filled:
         if guard:
             self.set("qp", int(guard[1:]))
         self.require_numbers([*left, *right])
-        if any(operand[0] == "[" for operand in [*left, *right]) != (self.row.form in OF_MEMORY):
+        if any(operand[0] == "[" for operand in [*left, *right]) != (self.row.format in OF_MEMORY):
             raise Misfit
         is_bare = self.reads and not any(name in self.fields for name in self.row.reads)
         if is_bare or {*self.writes} - {"p2"} or any(name[0] != "f" for name in self.reads):
@@ -166,7 +166,7 @@ class Filled:
         """An instruction has as many numbers as its format, and one more where it is added to an address and is always the
         same. That of a target isn't among these."""
         count = sum(not OPERAND.fullmatch(operand) and operand[:2] != "ar" for operand in operands)
-        wanted = {found[0] for found in map(NUMBER.match, self.row.pattern.fields) if found and self.row.kind not in TARGETED}
+        wanted = {found[0] for found in map(NUMBER.match, self.row.pattern.fields) if found and self.row.effect not in TARGETED}
         is_implied = not wanted and "r3" in self.row.writes and "r2" not in self.row.reads
         if count != len(wanted) + is_implied:
             raise Misfit

@@ -495,7 +495,7 @@ class Parts(unittest.TestCase):
                 self.assertGreaterEqual(contrast("#ffffff", colour), 4.5, colour)
 
     def test_forms(self):
-        self.assertEqual(drawing.FORMS, {".svg": svg.document, ".html": drawing.page.document})
+        self.assertEqual(drawing.DRAWERS, {".svg": svg.document, ".html": drawing.page.document})
 
 
 def meets(one, other):

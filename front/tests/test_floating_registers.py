@@ -10,7 +10,7 @@ import unittest
 from front import floating_registers
 from front.bundle import NOPS, UNITS, Bundle, Layout, branches, with_branch, with_displacement
 from front.floating_registers import NotMapped, on_general_registers
-from front.stand_ins import FORMATS, INDEX, PLACES, ROWS, WITHOUT_F, Kind, NoStandIn, Pattern, row_of, stood_in
+from front.stand_ins import FORMATS, INDEX, PLACES, ROWS, WITHOUT_F, Effect, NoStandIn, Pattern, row_of, stood_in
 from front.tests.test_stand_ins import (HOMES, ask, gnu_texts, home, in_profile, needs_objdump, needs_program, of_row,
                                         random_word)
 
@@ -23,7 +23,7 @@ END = Bundle(MII | STOP, (0, NOPS["i"], NOPS["i"]))
 
 def out(mnemonic, form="", **operands):
     """A word outside the profile: of the first row with this mnemonic, and this format where it's given."""
-    row = next(row for row in ROWS if mnemonic in row.mnemonic.split("/") and form in ("", row.form))
+    row = next(row for row in ROWS if mnemonic in row.mnemonic.split("/") and form in ("", row.format))
     word = row.pattern.fixed
     for low, _, values in row.pattern.choices:
         word |= min(values) << low
@@ -227,7 +227,7 @@ class AgainstPlainStandIns(unittest.TestCase):
 
     def setUp(self):
         self.draw = random.Random(3)
-        self.rows = {unit: [row for row in ROWS if unit in row.units and row.kind is not Kind.NONE] for unit in "mifb"}
+        self.rows = {unit: [row for row in ROWS if unit in row.units and row.effect is not Effect.NONE] for unit in "mifb"}
         self.mapped = {unit: [row for row in rows if any(name[0] == "f" or name in floating_registers.APPLICATION
                                                          for name in row.writes + row.reads)] or rows
                        for unit, rows in self.rows.items()}
@@ -301,7 +301,7 @@ class AgainstPlainStandIns(unittest.TestCase):
         while True:
             word = self.narrowed(unit, self.random_word(unit), (0,))
             row = row_of(unit, word)
-            if row and row.kind is not Kind.CHECK:
+            if row and row.effect is not Effect.CHECK:
                 return word
 
     def clashes(self, bundles):

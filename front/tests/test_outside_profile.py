@@ -5,7 +5,7 @@ import unittest
 
 from front import sources
 from front.bundle import UNITS
-from front.stand_ins import COMPARES, LAST, ROWS, Kind, operand, row_of
+from front.stand_ins import COMPARES, LAST, ROWS, Effect, operand, row_of
 from front.tests.test_stand_ins import HOMES, gnu_texts, home, needs_objdump, of_row, random_words
 
 TARGET = re.compile(r"((?:\(p\d+\) )?(?:brl|f?chk)\S* .*?)0x[0-9a-f]+$")
@@ -30,8 +30,8 @@ def said_by(row, word):
     guard = operand("qp", word) if "qp" in row.pattern.fields else 0
     register = word >> 20 & 127 if "ar3" in row.writes + row.reads else None
     writes, reads = of_row(row, word)
-    ordered = [operand(name, word) for name in ("p1", "p2") if name in row.writes and row.kind is Kind.OR_ANDCM]
-    return writes, reads, guard, register, row.kind, ordered, set(row.unseen)
+    ordered = [operand(name, word) for name in ("p1", "p2") if name in row.writes and row.effect is Effect.OR_ANDCM]
+    return writes, reads, guard, register, row.effect, ordered, set(row.unseen)
 
 
 @needs_objdump
@@ -41,7 +41,7 @@ class Outside(unittest.TestCase):
         words, count, rows = random_words(4), 0, set()
         texts = gnu_texts([home(unit, word, low) for _, unit, word, low in words])
         for (row, unit, word, _), text in zip(words, texts):
-            if row.kind is Kind.HINT or row.none == LAST:
+            if row.effect is Effect.HINT or row.none == LAST:
                 continue
             text = re.sub(r"^\(p0(\d)\)", r"(p\1)", " ".join(text[slot_of(unit)].split()))
             if not text or text.startswith("data8") or UNNAMED.search(text):
@@ -73,9 +73,9 @@ class Forms(unittest.TestCase):
             self.same(text, other, unit)
 
     def test_kinds_of_compares(self):
-        for text, kind in (("fcmp.eq.unc.s1", Kind.UNC), ("fcmp.eq.s1", Kind.NORMAL), ("frcpa.s1", Kind.UNC)):
+        for text, kind in (("fcmp.eq.unc.s1", Effect.UNC), ("fcmp.eq.s1", Effect.NORMAL), ("frcpa.s1", Effect.UNC)):
             word = read_slot(f"{text} {'f6' if 'rcpa' in text else 'p6'},p7=f8,f9", "f").word
-            self.assertIs(row_of("f", word).kind, kind)
+            self.assertIs(row_of("f", word).effect, kind)
             self.assertIn(kind, COMPARES)
 
     def test_texts(self):

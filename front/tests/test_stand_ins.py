@@ -12,7 +12,7 @@ import unittest
 from typing import FrozenSet, NamedTuple, Optional
 
 from front.bundle import NOPS, UNITS, Bundle, branches, long_displacement, split, with_branch, with_long_displacement
-from front.stand_ins import COMPARES, FORMATS, PLACES, ROWS, SEEN, WIDTHS, Kind, NoStandIn, operand, row_of, stood_in
+from front.stand_ins import COMPARES, FORMATS, PLACES, ROWS, SEEN, WIDTHS, Effect, NoStandIn, operand, row_of, stood_in
 
 PROGRAM = os.environ.get("IA64_PROGRAM")
 OBJDUMP = shutil.which("ia64-linux-gnu-objdump")
@@ -253,12 +253,12 @@ class StandIns(unittest.TestCase):
         for row in ROWS:
             pattern = row.pattern
             bits = sum(width for _, width in pattern.fields.values()) + bin(pattern.blank).count("1")
-            self.assertEqual(bits, 41, row.form)
+            self.assertEqual(bits, 41, row.format)
             for name in set(pattern.fields) & set(PLACES):
-                self.assertEqual(pattern.fields[name], (PLACES[name], WIDTHS[name]), row.form)
+                self.assertEqual(pattern.fields[name], (PLACES[name], WIDTHS[name]), row.format)
             for name in row.writes + row.reads:
                 self.assertTrue(name not in PLACES or name in pattern.fields, f"{row.mnemonic} has no {name}")
-        self.assertEqual({row.form for row in ROWS}, set(FORMATS))
+        self.assertEqual({row.format for row in ROWS}, set(FORMATS))
 
     def test_one_row(self):
         """A word is of one row, and `row_of` finds it."""
@@ -293,13 +293,13 @@ class StandIns(unittest.TestCase):
     def test_mnemonics(self):
         """GNU calls each word what its row does."""
         for (row, _, word, _), text in zip(self.words, self.gnu):
-            self.assertTrue(is_named(text.mnemonic, row), f"{row.form} {row.mnemonic}: {text.mnemonic} {word:#x}")
+            self.assertTrue(is_named(text.mnemonic, row), f"{row.format} {row.mnemonic}: {text.mnemonic} {word:#x}")
 
     @needs_objdump
     def test_accesses(self):
         """By GNU's text each word reads and writes what its row says, floating-point registers too."""
         for (row, _, word, _), text in zip(self.words, self.gnu):
-            with self.subTest(row=row.mnemonic, form=row.form, text=text):
+            with self.subTest(row=row.mnemonic, form=row.format, text=text):
                 writes, reads = of_row(row, word)
                 written = {name for name in text.writes if not re.match(r"ar\.(?!ccv|csd)|ar\d|cfm", name)}
                 read = {name for name in text.reads if not re.match(r"ar\.(?!ccv|csd)|ar\d", name)}
@@ -319,7 +319,7 @@ class StandIns(unittest.TestCase):
             self.assertIs(of, row)
             slot = max(new for new, at in found.slots.items() if at == old)
             made = read_text(slots[slot])
-            with self.subTest(row=row.mnemonic, form=row.form, text=text, made=made):
+            with self.subTest(row=row.mnemonic, form=row.format, text=text, made=made):
                 self.assertEqual(in_profile(made.writes), in_profile(text.writes))
                 self.assertEqual(in_profile(made.reads), in_profile(text.reads) if text.mnemonic[:3] != "brp" else set())
                 self.assertEqual((made.guard, made.kind, made.way), (text.guard, text.kind, text.way))
@@ -327,14 +327,14 @@ class StandIns(unittest.TestCase):
 
     def short_bundles(self):
         """The bundles, with near targets of long branches."""
-        return [with_long_displacement(bundle, -5) if row.kind in (Kind.BRANCH, Kind.CALL) else bundle
+        return [with_long_displacement(bundle, -5) if row.effect in (Effect.BRANCH, Effect.CALL) else bundle
                 for bundle, (row, *_) in zip(self.bundles, self.words)]
 
     @needs_objdump
     def test_targets(self):
         """The targets of floating-point checks are where GNU finds them."""
         checks = [(text, bundle, number) for number, (text, bundle, (row, *_)) in
-                  enumerate(zip(self.gnu, self.bundles, self.words)) if row.kind is Kind.CHECK]
+                  enumerate(zip(self.gnu, self.bundles, self.words)) if row.effect is Effect.CHECK]
         self.assertTrue(checks)
         for text, bundle, number in checks:
             (_, away), = branches(bundle)
@@ -389,7 +389,7 @@ class StandIns(unittest.TestCase):
     def test_kinds_of_compares(self):
         """A compare writes predicates, and nothing else does."""
         for row in ROWS:
-            self.assertEqual(row.kind in COMPARES, "p2" in row.writes, row.mnemonic)
+            self.assertEqual(row.effect in COMPARES, "p2" in row.writes, row.mnemonic)
 
 
 class StoodInBundles(unittest.TestCase):
