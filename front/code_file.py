@@ -11,6 +11,8 @@ from typing import List, NamedTuple, Optional, Tuple
 
 Location = Tuple[int, int]
 WORD64 = (1 << 64) - 1
+# How the names of sections begin that have tables for unwinding and exceptions: addresses in these don't say how code is reached.
+TABLE_SECTIONS = (".IA_64.unwind", ".gnu.linkonce.ia64unw", ".gcc_except_table", ".eh_frame")
 
 
 class Section(NamedTuple):

@@ -26,7 +26,7 @@ from front.refusals import OF_A_CALL, RefusedInput, at_lines, said_of_run
 def between(lowest, highest):
     """A reader of a number from one to another, in decimal and without leading zeros."""
     def number(word):
-        if not re.fullmatch(r"0|[1-9][0-9]{0,19}", word) or not lowest <= int(word) <= highest:
+        if not usage.is_number(word, lowest, highest):
             raise argparse.ArgumentTypeError(f"{word} is no number from {lowest} to {highest}")
         return int(word)
     return number

@@ -7,7 +7,7 @@ of HP-UX are big-endian, and of 32 bits where their programs are (System V ABI, 
 import struct
 from typing import Dict, List, NamedTuple
 
-from front.code_file import Addresses, CodeFile, Rank, Relocation, Section, Stretch, Symbol
+from front.code_file import TABLE_SECTIONS, Addresses, CodeFile, Rank, Relocation, Section, Stretch, Symbol
 from front.faults import Fault
 from front.content import part, rows, string, unpacked
 
@@ -20,7 +20,6 @@ UNUSED, PROGBITS, SYMTAB, RELA, NOBITS, REL, DYNSYM, SYMTAB_SHNDX = 0, 1, 2, 4, 
 ARRAYS = (14, 15, 16)                              # of functions to call at start and end
 UNWIND = 0x70000001
 WRITABLE, ALLOCATED, CODE, THREAD_LOCAL = 1, 2, 4, 0x400
-UNREAD = (".IA_64.unwind", ".gnu.linkonce.ia64unw", ".gcc_except_table", ".eh_frame")
 LABEL, FUNCTION, SECTION, THREAD = 0, 2, 3, 6      # types of symbols
 LOAD, EXECUTED = 1, 1                              # of segments: the type, and the flag
 RANKS = {0: Rank.LOCAL, 1: Rank.GLOBAL, 2: Rank.WEAK}
@@ -66,7 +65,7 @@ class Header(NamedTuple):
     def is_read_for_addresses(self):
         """Whether addresses of code in it may say that code is reached: not those of tables for unwinding and
         exceptions, and not those of what isn't loaded."""
-        return self.flags & ALLOCATED != 0 and self.kind != UNWIND and not self.name.startswith(UNREAD)
+        return self.flags & ALLOCATED != 0 and self.kind != UNWIND and not self.name.startswith(TABLE_SECTIONS)
 
     def section(self):
         return Section(self.index, self.name, self.address, self.size, self.is_code, self.is_stored)

@@ -10,6 +10,9 @@ from front.faults import ProgramFault
 from front.functions import MOST_BUNDLES, MOST_ENTRIES
 from front.rules import RULES
 
+# Where an image has its code and its data.
+CODE_AT, DATA_AT = 0x10000, 0x100000
+
 # Behind each function: `break.m 0`, two nops and a stop. And the lines of its text.
 END = Bundle(0x01, (0, NOPS["i"], NOPS["i"]))
 END_LINES = ("{ .mii", "  break.m 0x0", "  nop.i 0x0", "  nop.i 0x0 ;;", "}")
@@ -49,6 +52,17 @@ def image(pieces):
         code += [bytes(bundles), END.packed()]
         first += len(bundles) // 16 + 1
     return b"".join([b"IA64IMG2", struct.pack(f"<4I{len(entries)}I", first, len(entries), 0, 0, *entries), *code])
+
+
+class Parts:
+    """The parts of an image: its head with entries and relations, its bundles, and its data."""
+
+    def __init__(self, image):
+        count, entries = struct.unpack_from("<2I", image, 8)
+        relations = struct.unpack_from("<I", image, 20)[0] if image.startswith(b"IA64IMG2") else 0
+        first = 24 + 4 * entries + 8 * relations
+        self.entries = struct.unpack_from(f"<{entries}I", image, 24)
+        self.head, self.code, self.rest = image[:first], image[first:first + 16 * count], image[first + 16 * count:]
 
 
 def batches(pieces, size):

@@ -12,7 +12,7 @@ from front.files import Kind
 from front.functions import Function
 from front.gnu import Source
 from front.judging import ACCEPTED, VIOLATED
-from front.program import END, Refusal
+from front.program import END, Parts, Refusal
 from front.refusals import REFUSAL_OF_TEXT, RefusedInput, directive_at, explained
 from front.reports import Answer, Finding
 from front.rules import RULES
@@ -86,7 +86,7 @@ def unread(file, none):
 
 def coverage(file, built):
     """A note where walks miss some bundles of a program: its verdict says nothing of these."""
-    function = built.function()
+    function = function_of(built)
     walked = flow.walks(function).walked
     missed = flow.off_walks(function, walked)
     if missed:
@@ -105,7 +105,7 @@ def stops_off_walks(data, program):
     built = Parts(image) if status == 0 else None
     if built is None or len(slots) != len(built.code) // 16 or not all(slots):
         return None
-    lines, kept, function = lines_of_text(data), set(), built.function()
+    lines, kept, function = lines_of_text(data), set(), function_of(built)
     stops = [number for number, line in enumerate(lines) if without_stop(parts_of(line)[0])[1]]
     for index in flow.off_walks(function, flow.walks(function).walked):
         first, last = slots[index][0].line - 1, slots[index][-1].line - 1
@@ -113,20 +113,10 @@ def stops_off_walks(data, program):
     return frozenset(kept)
 
 
-class Parts:
-    """The parts of an image: its head with entries and relations, its bundles, and its data."""
-
-    def __init__(self, image):
-        count, entries = struct.unpack_from("<2I", image, 8)
-        relations = struct.unpack_from("<I", image, 20)[0] if image.startswith(b"IA64IMG2") else 0
-        first = 24 + 4 * entries + 8 * relations
-        self.entries = struct.unpack_from(f"<{entries}I", image, 24)
-        self.head, self.code, self.rest = image[:first], image[first:first + 16 * count], image[first + 16 * count:]
-
-    def function(self):
-        """The program as a function, for its walks."""
-        section = Section(0, "", 0, len(self.code), True, True)
-        return Function(section, 0, section.size, "", bundles=split_all(self.code), entries=dict.fromkeys(self.entries, "declared"))
+def function_of(parts):
+    """The program as a function, for its walks."""
+    section = Section(0, "", 0, len(parts.code), True, True)
+    return Function(section, 0, section.size, "", bundles=split_all(parts.code), entries=dict.fromkeys(parts.entries, "declared"))
 
 
 class Image(Parts):

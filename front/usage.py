@@ -71,6 +71,7 @@ TRIAL = "two numbers, a seed below 2^64 and from 1 to 4096 bundles, each without
 
 
 def is_number(word, lowest, highest):
+    """Whether a word is a number from one to another, in decimal and without leading zeros."""
     return re.fullmatch(r"0|[1-9][0-9]{0,19}", word) is not None and lowest <= int(word) <= highest
 
 

@@ -10,12 +10,12 @@ from front.calling import thread_pointer
 from front.calling.ends import Change, End, State, changes, slot_text, trimmed
 from front.calling.hints import is_hint
 from front.calling.image import IN_RESULTS, Stop
-from front.calling.linking import CODE_AT, CODE_BYTES, DATA_AT
+from front.calling.linking import CODE_BYTES
 from front.faults import printable
 from front.flow import turns_of
 from front.functions import MOST_BUNDLES
 from front.messages import counted, said_clash
-from front.program import Refusal
+from front.program import CODE_AT, DATA_AT, Refusal
 
 # The statuses of a call, by how it ends.
 STATUSES = {End.RETURNED: 0, End.VIOLATED: 1, End.OUTSIDE: 3, End.MISSING: 3, End.ASTRAY: 3, End.LIMIT: 8, End.BREAK: 9,

@@ -13,7 +13,7 @@ from front.calling.call_trace import CallTrace
 from front.checking import WRONG, complain
 from front.content import write_file
 from front.faults import Fault, ProgramFault, printable
-from front.program import refusal_of
+from front.program import CODE_AT, refusal_of
 from front.tracing.command import SHOWN
 
 # The status where the program refuses the image, beside those of `answer`.
@@ -139,6 +139,6 @@ def linked_files(options):
             raise Fault(f"--with {printable(path)}: {fault}") from None
     linked = linking.link(files, options.stack)
     function = linked.function(options.function, is_local)
-    if function is None or function % 16 or not linking.STUBS_AT <= function < linked.end(True, linking.CODE_AT):
+    if function is None or function % 16 or not linking.STUBS_AT <= function < linked.end(True, CODE_AT):
         raise Fault(f"{printable(options.function)} is at no bundle of what was linked")
     return linked, function

@@ -10,10 +10,10 @@ from front import elf, gnu
 from front.bundle import branches, with_branch
 from front.calling.arguments import IN_REGISTERS
 from front.calling.image import FRONT, GAP
-from front.calling.linking import CODE_AT, DATA_AT, GLOBAL_POINTER
+from front.calling.linking import GLOBAL_POINTER
 from front.faults import ProgramFault
 from front.ordering.states import lines_of
-from front.program import Refusal, image
+from front.program import CODE_AT, DATA_AT, Refusal, image
 
 
 class End(Enum):

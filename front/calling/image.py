@@ -20,11 +20,11 @@ from typing import Dict, List, NamedTuple, Optional, Tuple
 from front.bundle import NOPS, Bundle, branches, split_all, with_branch
 from front.calling.arguments import IN_REGISTERS
 from front.calling.hints import without_hint
-from front.calling.linking import CODE_AT, DATA_AT, DATA_BYTES, GLOBAL_POINTER, STUBS_AT
+from front.calling.linking import DATA_BYTES, GLOBAL_POINTER, STUBS_AT
 from front.faults import Fault, ProgramFault, printable
 from front.flow import turns_of
 from front.functions import MOST_ENTRIES
-from front.program import refusal_of
+from front.program import CODE_AT, DATA_AT, refusal_of
 from front.stand_ins import Effect, rows_of
 
 # Bytes at the top of the stack that a called function may use, and behind and in front of what each argument points to.

@@ -20,9 +20,10 @@ from front.content import read_file
 from front.faults import Fault, printable
 from front.files import Kind, is_source, kind_of
 from front.functions import MOST_BUNDLES, no_function
+from front.program import CODE_AT, DATA_AT
 
-# Where an image has its code and its data, and how many bytes of each it has room for.
-CODE_AT, DATA_AT, CODE_BYTES, DATA_BYTES = 0x10000, 0x100000, 16 * MOST_BUNDLES, 1 << 20
+# How many bytes of code and of data an image has room for.
+CODE_BYTES, DATA_BYTES = 16 * MOST_BUNDLES, 1 << 20
 # How many bundles the caller has room for, where those of missing names begin, and the global pointer.
 CALLER_BUNDLES, GLOBAL_POINTER = 16, 0x180000
 STUBS_AT = CODE_AT + 16 * CALLER_BUNDLES

@@ -74,7 +74,7 @@ def figure(file, source, program, is_proved):
         return f"{row.rule} {row.resource}: {programs.said_pair(row, text(row.first), text(row.second))} ({places})"
 
     pairs = figures.pairs_of(broken, said, accesses) + figures.pairs_of(excused, said, accesses, True)
-    declared, walked = Declared(image.head), flow.walks(image.function()).walked
+    declared, walked = Declared(image.head), flow.walks(programs.function_of(image)).walked
     rows = make_rows(bundles, listing, told, accesses, text, declared, walked)
     only_by = figures.only_by(found)
     edges = tuple(figures.branch((index, slot), index + away, f"{index}.{slot} to bundle {index + away}", only_by)

@@ -12,7 +12,6 @@ one group (`split.py`): no promise is made that the hardware does so.
 
 import math
 import random
-import struct
 from itertools import permutations
 from typing import Dict, List, NamedTuple
 
@@ -23,6 +22,7 @@ from front.ordering import writes
 from front.ordering.answers import Answers
 from front.ordering.slot_by_slot import SlotBySlot, through_group
 from front.ordering.states import ZERO, State, lines_of
+from front.program import Parts
 from front.usage import NUMBER_LIMIT
 
 # All orders of so many writes are run, and so many processes at once.
@@ -82,13 +82,12 @@ class Asked:
 
     def with_breaks(self, positions):
         """The image with a `break` in each of these positions: a word of zeros, whatever the unit."""
-        count, entries, _, relations = struct.unpack_from("<4I", self.image, 8)
-        first = 24 + 4 * entries + 8 * relations
-        bundles = split_all(self.image[first:first + 16 * count])
+        parts = Parts(self.image)
+        bundles = split_all(parts.code)
         for bundle, slot in positions:
             is_long = bundles[bundle].units == "mlx" and slot == 1
             bundles[bundle] = bundles[bundle].with_word(slot, 0).with_word(2 if is_long else slot, 0)
-        return self.image[:first] + b"".join(bundle.packed() for bundle in bundles) + self.image[first + 16 * count:]
+        return b"".join([parts.head, *(bundle.packed() for bundle in bundles), parts.rest])
 
     def is_apart(self):
         """Whether no earlier group of the run, in program order, reaches a slot of the group, and whether then no order of

@@ -12,6 +12,7 @@ from typing import List, NamedTuple
 
 from front.faults import Fault
 from front.loosen import is_call, with_unit
+from front.program import CODE_AT
 from front.texts import LABEL, OPENING, OUTSIDE, lines_of_text, parts_of, without_stop
 
 # The bundle of a slot that stands alone, by its unit, and where in it the slot stands. An `alloc` comes first, a branch last.
@@ -29,11 +30,11 @@ class Split(NamedTuple):
 
     def address(self, value):
         """The address that a bundle had, of its address now; of any other number, that number."""
-        number, rest = divmod(value - 0x10000, 16)
+        number, rest = divmod(value - CODE_AT, 16)
         if rest or not 0 <= number < len(self.positions):
             return value
         bundle = self.positions[number][0][0]
-        return 0x10000 + 16 * bundle if number == 0 or self.positions[number - 1][0][0] != bundle else value
+        return CODE_AT + 16 * bundle if number == 0 or self.positions[number - 1][0][0] != bundle else value
 
 
 def split(data, wanted=None):

@@ -2,6 +2,7 @@
 
 import re
 
+from front.code_file import WORD64
 from front.faults import Unread
 
 NAME = r"[A-Za-z_.$\x80-\xff][\w.$\x80-\xff]*"
@@ -13,7 +14,6 @@ ESCAPES = {"n": "\n", "t": "\t", "r": "\r", "b": "\b", "f": "\f"}
 # How tightly operators bind, in the assembler's order.
 LEVELS = {"*": 3, "/": 3, "%": 3, "<<": 3, ">>": 3, "|": 2, "&": 2, "^": 2, "+": 1, "-": 1}
 UNARY, UNARY_LEVEL = {"-": "minus", "+": "plus", "~": "not"}, 4
-ALL_BITS = (1 << 64) - 1
 
 
 def tokens_of(text, line):
@@ -76,7 +76,7 @@ def signed(value):
     """A sum within 64 bits, as the assembler has it."""
     if isinstance(value, Named):
         return Named(signed(value.number), value.counts)
-    return value if -(1 << 63) <= value <= ALL_BITS else (value + (1 << 63) & ALL_BITS) - (1 << 63)
+    return value if -(1 << 63) <= value <= WORD64 else (value + (1 << 63) & WORD64) - (1 << 63)
 
 
 def applied(mark, values):
@@ -93,7 +93,7 @@ def applied(mark, values):
         size = -size if (first < 0) != (last < 0) else size
         result = size if mark == "/" else first - size * last
     else:
-        result = {"*": lambda: first * last, "<<": lambda: first << last, ">>": lambda: (first & ALL_BITS) >> last,
+        result = {"*": lambda: first * last, "<<": lambda: first << last, ">>": lambda: (first & WORD64) >> last,
                   "|": lambda: first | last, "&": lambda: first & last, "^": lambda: first ^ last,
                   "+": lambda: first + last, "-": lambda: first - last}[mark]()
     values.append(signed(result))

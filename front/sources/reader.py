@@ -3,7 +3,7 @@
 import re
 from typing import NamedTuple, Optional, Tuple
 
-from front.code_file import Rank
+from front.code_file import TABLE_SECTIONS, Rank
 from front.faults import Unread
 from front.sources.forms import rewritten
 from front.sources.instructions import (FOLLOWED, OUTSIDE_TARGETED, PRECEDED, Alignment, Instruction, TARGETED, TEMPLATES,
@@ -32,7 +32,6 @@ OF_CODE = re.compile(r"\.(?:text(?:\.|$)|(?:init|fini|plt)$)")
 LOADED = re.compile(r"\.(?:(?:data|rodata|bss|tdata|tbss|init_array|fini_array|preinit_array|persistent|noinit"
                     r"|gnu\.linkonce\.[bnp])(?:\.|$)|(?:data1|rodata1|got|hash|dynamic|dynsym|dynstr"
                     r"|gnu\.(?:hash|liblist|conflict))$|sdata|sbss)")
-OF_TABLES = (".IA_64.unwind", ".gnu.linkonce.ia64unw", ".gcc_except_table", ".eh_frame")
 OF_HANDLERS = ".IA_64.unwind_info"
 OTHER_SECTIONS = ("data", "bss", "sdata", "sbss", "rodata", "init_array", "fini_array")
 
@@ -154,7 +153,7 @@ class Reader:
     def is_loaded(self, section):
         """Whether names in a section say that what they name is reached."""
         is_loaded = LOADED.match(section) or OF_CODE.match(section) or "a" in self.kinds.get(section, "")
-        return bool(is_loaded) and not section.startswith(OF_TABLES)
+        return bool(is_loaded) and not section.startswith(TABLE_SECTIONS)
 
     def open(self, code):
         if not code or code.is_open:

@@ -24,12 +24,9 @@ from front.listing import END
 from front.program import Program
 from front.tests import case
 from front.tests.case import FRONT, HAS_GNU, PROGRAM, asked, needs_gnu
-from front.tests.writers import Elf
+from front.tests.writers import CODE_FLAGS, DATA_FLAGS, DIR64, PCREL21B, PCREL21M, PCREL64, READ_ONLY, REL64, Elf
 
 # ---- Files -----------------------------------------------------------------------------------------------
-
-CODE_FLAGS, DATA_FLAGS, READ_ONLY = 6, 3, 2
-PCREL21B, PCREL21M, DIR64, PCREL64, REL64 = 0x49, 0x4A, 0x27, 0x4F, 0x6F
 
 
 def bundle(names, *slots, stop=True):

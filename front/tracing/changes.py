@@ -28,9 +28,6 @@ ZERO, OUTSIDE, NO_ENTRY = "0" * 16, "outside the frame", "no entry"
 # Numbers from here to there are shown in decimal too, as those below are that are negative.
 LEAST, MOST = 10, 0xFFFF
 
-# Where bundle 0 stands.
-CODE_AT = 0x10000
-
 
 # ---- Values ----------------------------------------------------------------------------------------------
 

@@ -12,7 +12,8 @@ from typing import List, NamedTuple, Tuple
 from front.bundle import slots_of, split_all
 from front.ordering.answers import VIOLATED, Answers
 from front.ordering.states import State, position_of
-from front.tracing.changes import CODE_AT, Change, changes
+from front.program import CODE_AT, Parts
+from front.tracing.changes import Change, changes
 from front.usage import GROUP_LIMIT, TRACE_LIMIT
 
 __all__ = ["Change", "Places", "Step", "Violated", "bundles_of", "steps"]
@@ -81,9 +82,7 @@ class Places:
 
 def bundles_of(image):
     """The bundles of an image."""
-    count, entries, _, relations = struct.unpack_from("<4I", image, 8)
-    first = 24 + 4 * entries + 8 * relations
-    return split_all(image[first:first + 16 * count])
+    return split_all(Parts(image).code)
 
 
 def steps(program, image, first=1, count=GROUP_LIMIT, places=None, look=changes):

@@ -9,6 +9,7 @@ import re
 import struct
 
 from front.faults import Fault
+from front.program import DATA_AT
 from front.tracing.changes import (OUTSIDE, USED_NAMES, ZERO, Change, alat_changes, frame_changes, line_name, said,
                                    stack_changes)
 
@@ -17,9 +18,6 @@ NUMBERED = {"r": range(1, 128), "p": range(1, 64), "b": range(8)}
 OTHERS = ("ar.unat", "ar.pfs", "ar.lc", "ar.ec", "frame", "rse", "alat")
 ALIASES = {used: name for name, used in USED_NAMES.items()}
 WATCHED = f"r1 to r127, {', '.join(ALIASES)}, p1 to p63, b0 to b7, {', '.join(OTHERS)}, and words of the data, as [0x100008]"
-
-# Where the data stand.
-DATA_AT = 0x100000
 
 
 # ---- Names -----------------------------------------------------------------------------------------------
