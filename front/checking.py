@@ -60,7 +60,7 @@ def status(counts, options):
         return WRONG
     if counts.errors > counts.known if options.baseline else counts.verdicts[VIOLATED]:
         return FOUND
-    return UNJUDGED if options.strict and counts.verdicts[NOT_JUDGED] else DONE
+    return UNJUDGED if options.strict and (counts.verdicts[NOT_JUDGED] or counts.bare) else DONE
 
 
 def baseline(path):
@@ -198,10 +198,18 @@ def first_answer(item, options, program, complain_of, say):
         try:
             return files.assemble(file, item.path, options, complain_of, say)
         except gnu.NotAssembled as none:
-            return programs.not_assembled(file, none.lines) if refusal.is_at_directive else refusal.answer
+            return not_assembled(refusal, none.lines)
         except Fault as fault:
             complain_of(f"{file.label}: {fault}")
             return refusal.answer
+
+
+def not_assembled(refusal, lines):
+    """The answer on what is neither a text nor a source that the GNU assembler takes: what that says of it, behind the refusal of
+    the text unless that is only one of a directive."""
+    answer = programs.not_assembled(refusal.answer.file, lines)
+    own = [] if refusal.is_at_directive else refusal.answer.findings
+    return answer._replace(findings=[*own, *answer.findings])
 
 
 def read_answer(file, refusal, options, program):

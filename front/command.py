@@ -19,7 +19,7 @@ from front.judging import Judge
 from front.messages import counted
 from front.content import read_file, write_file
 from front.program import Program
-from front.refusals import OF_A_CALL, RefusedInput, at_lines, said_of_run
+from front.refusals import OF_A_CALL, OF_A_SOURCE, RefusedInput, at_lines, hinted, said_of_run, said_of_source
 
 # ---- Words -----------------------------------------------------------------------------------------------
 
@@ -58,7 +58,8 @@ def check_options(parser):
                        help="errors that are among the lines of this earlier answer are left out, and don't count for the status")
     parser.add_argument("-j", "--jobs", type=between(1, 256), default=1, metavar="N", help="so many processes, by default 1")
     parser.add_argument("--exact", action="store_true", help="nothing stands in for instructions outside the profile")
-    parser.add_argument("--strict", action="store_true", help="status 3 where a function isn't judged and none is violated")
+    parser.add_argument("--strict", action="store_true",
+                        help="status 3 where a function isn't judged, or a file has none, and none is violated")
     add_code_options(parser)
     parser.set_defaults(run=checking.check)
 
@@ -242,7 +243,8 @@ def without_bundles(options, program, data):
     kept = () if options.keep_stops else programs.stops_off_walks(data, program)
     if kept is None:
         complain(f"{options.file}: note: its bundles make no program, so it isn't known which of them walks reach: the stops of "
-                 "the others are taken out too. --keep-stops keeps all stops")
+                 "the others are taken out too. --keep-stops keeps all stops"
+                 + f"; {hinted(OF_A_SOURCE, options.file)}" * files.is_source(options.file))
     elif kept:
         complain(f"{options.file}: note: some bundles are on no walk: {counted(len(kept), 'stop')} there, the first in line "
                  f"{min(kept) + 1}, {'is' if len(kept) == 1 else 'are'} kept. A line `.entry NAME` makes what a label names an entry")
@@ -390,8 +392,9 @@ def plain_answer(program, arguments, data, path, output=None, numbers=None):
     else:
         put_out(printed)
     if status == REFUSED:
-        is_source = arguments[0] in (*usage.LIMITS, "trace") and files.is_source(path)
-        complain(f"{path}: {said_of_run(RefusedInput(printed.decode('latin-1'), data), data, is_source)}")
+        said = said_of_run if arguments[0] in (*usage.LIMITS, "trace") else said_of_source
+        refusal = RefusedInput(printed.decode("latin-1"), data, program)
+        complain(f"{path}: {hinted(said(refusal, data, files.is_source(path)), path, data)}")
     elif status in SAID:
         complain(f"{path}: {SAID[status]}")
     return status
@@ -511,7 +514,8 @@ def main(arguments=None):
         options = parser_of(arguments[0]).parse_args(arguments[1:])
         return options.run(options, Program(find_program))
     except Fault as fault:
-        complain(f"{fault.path or getattr(options, 'file', arguments[0])}: {fault}")
+        path = fault.path or getattr(options, "file", arguments[0])
+        complain(f"{path}: {hinted(str(fault), path, data_for_hints(path, str(fault)))}")
     except ProgramFault as fault:
         complain(str(fault))
     except NoProgram as none:
@@ -519,6 +523,14 @@ def main(arguments=None):
     except MemoryError:
         complain("out of memory")
     return WRONG
+
+
+def data_for_hints(path, said):
+    """The bytes of a file of which a function is to be named, where they can be read once more."""
+    try:
+        return read_file(path) if "FUNCTION" in said and os.path.isfile(path) else b""
+    except Fault:
+        return b""
 
 
 def closed_output():

@@ -35,6 +35,7 @@ class File:
     fault: Optional[str] = None                      # why it can't be read
     code: Optional[CodeFile] = None
     functions: List[Function] = field(default_factory=list)
+    reading: str = ""                                # of a source: by which reading it is code
 
 
 def kind_of(data):
@@ -109,7 +110,9 @@ def items(path):
 def assemble(file, path, options, complain, say):
     """The code that the GNU assembler makes of a source. What that says is said, and what there is to complain of is
     complained of."""
-    return read_code(file.label, path, gnu.assembled(path, file.data, options.as_flags, complain, say), options.syscalls)
+    made = read_code(file.label, path, gnu.assembled(path, file.data, options.as_flags, complain, say), options.syscalls)
+    made.reading = "the GNU assembler makes it"
+    return made
 
 
 def read_source(file, program, syscalls):
@@ -123,6 +126,7 @@ def read_source(file, program, syscalls):
         raise ProgramFault(f"`{program.path} build` ended with status {status}")
     code = sources.SourceCode(read, printed)
     made = with_functions(file.label, file.path, file.data, code, syscalls)
+    made.reading = "it is read without the GNU assembler"
     for function in made.functions:
         function.texts = code.texts(function)
     return made

@@ -1,8 +1,8 @@
 """Where walks go in a function: which of its bundles one reaches (volume 3, chapter 4, formats of branches).
 
 It is read off the words, of those outside the profile too. Which bundles are on no walk only makes a note beside a verdict. But
-by `turns_of` front/isolation.py also finds where code without symbols goes on behind an end, and declares an entry there: without it
-a verdict would say nothing of what follows."""
+by `turns_of` front/isolation.py also finds where code without symbols goes on behind an end, and declares an entry there:
+without it a verdict would say nothing of what follows."""
 
 from typing import List, NamedTuple, Optional
 
@@ -85,6 +85,11 @@ def walks(function):
             waiting.append(at + 1)
             falls_out = falls_out or at + 1 == len(turns)
     return Walks(walked, falls_out, indirect)
+
+
+def may_miss(bundles):
+    """Whether walks may miss a bundle of a program: not where no slot holds a branch, a check or a break, as in straight code."""
+    return any(may_turn(unit, word) for bundle in bundles for unit, word in zip(bundle.units, bundle.words))
 
 
 def off_walks(function, walked):

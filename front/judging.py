@@ -74,6 +74,7 @@ class Verdict:
     stood_in: Dict[Tuple[int, int], stand_ins.Row] = field(default_factory=dict)
     unlooked: List[str] = field(default_factory=list)            # what its verdict doesn't look at
     ways: Dict[Violation, List[Tuple[Tuple[int, int], int]]] = field(default_factory=dict)   # see `ways`
+    calls: Dict[Violation, List[Tuple[int, int]]] = field(default_factory=dict)   # see `ways` too, where they are wanted
     excused: List[Violation] = field(default_factory=list)       # pairs that predicates excuse, where they are wanted
     texts: Optional[List[List[str]]] = None                      # of its slots, where they are wanted
     unread: List[Tuple[int, int]] = field(default_factory=list)  # then the slots whose texts the program doesn't give
@@ -235,6 +236,8 @@ class Judge:
         verdict.ways = {piece.told(row): [(piece.place(*place), piece.place(target, 0)[0]) for place, target in found]
                         for row, found in ways.ways(ask, piece.code, verdict.broken).items()}
         if self.verbose:
+            verdict.calls = {piece.told(row): [piece.place(*place) for place in places]
+                             for row, places in ways.calls(ask, piece.code, verdict.broken).items()}
             verdict.excused = list(dict.fromkeys(map(piece.told, ways.excused(ask, piece.code, verdict.broken))))
 
     def refused(self, verdict, piece, refusal):

@@ -100,8 +100,10 @@ def said_clash(violation, first, second):
 
 
 def said_ways(verdict, violation):
-    return ways.said(verdict.ways.get(violation, ()),
-                     lambda place: f"{verdict.function.offset(place[0]):+#x} slot {place[1]}")
+    def name(place):
+        return f"{verdict.function.offset(place[0]):+#x} slot {place[1]}"
+
+    return ways.said(verdict.ways.get(violation, ()), name) + ways.said_calls(verdict.calls.get(violation, ()), name)
 
 
 def mnemonic(text):

@@ -1,11 +1,12 @@
 """The proved program, as it is asked, and the images that it is asked about."""
 
+import functools
 import re
 import struct
 import subprocess
 from typing import NamedTuple, Optional
 
-from front.bundle import NOPS, Bundle
+from front.bundle import NOPS, Bundle, split_all
 from front.faults import ProgramFault
 from front.functions import MOST_BUNDLES, MOST_ENTRIES
 from front.rules import RULES
@@ -63,6 +64,10 @@ class Parts:
         first = 24 + 4 * entries + 8 * relations
         self.entries = struct.unpack_from(f"<{entries}I", image, 24)
         self.head, self.code, self.rest = image[:first], image[first:first + 16 * count], image[first + 16 * count:]
+
+    @functools.cached_property
+    def bundles(self):
+        return split_all(self.code)
 
 
 def batches(pieces, size):

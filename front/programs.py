@@ -5,7 +5,6 @@ import struct
 from bisect import bisect_left
 
 from front import flow, ways
-from front.bundle import split_all
 from front.code_file import Section
 from front.faults import ProgramFault
 from front.files import Kind
@@ -13,7 +12,7 @@ from front.functions import Function
 from front.gnu import Source
 from front.judging import ACCEPTED, VIOLATED
 from front.program import END, Parts, Refusal
-from front.refusals import REFUSAL_OF_TEXT, RefusedInput, directive_at, explained
+from front.refusals import REFUSAL_OF_TEXT, RefusedInput, directive_at, explained_line, hinted
 from front.reports import Answer, Finding
 from front.rules import RULES
 from front.texts import lines_of_text, parts_of, slots_of_text, without_stop
@@ -38,31 +37,35 @@ def checked(file, program, verbose=False):
     """The answer on a text or an image; a refused one comes as `Refused`."""
     status, text = program.call(["check"], file.data)
     if status == 3:
-        raise refused(file, text.rstrip("\n"))
+        raise refused(file, text.rstrip("\n"), program)
     total, broken = program.verdict(text)
     built = Image(file, program)
     found = ways.ways(built.ask, built.code, broken) if broken and total == len(broken) else {}
     excused = ways.excused(built.ask, built.code, broken) if verbose and total == len(broken) else []
+    calls = ways.calls(built.ask, built.code, broken) if verbose and total == len(broken) else {}
+    slots = slots_of_text(file.data) if file.kind is Kind.TEXT and (broken or excused) else None
     if file.kind is Kind.TEXT:
-        findings = list(text_findings(file, slots_of_text(file.data), broken, found, excused))
+        findings = list(text_findings(file, slots, broken, found, excused, calls))
     else:
-        findings = list(image_findings(file, broken, found, excused, program))
+        findings = list(image_findings(file, broken, found, excused, calls, program))
     if verbose and not total:
         findings.append(Finding(Severity.NOTE, None, file.label, "", ACCEPTED))
-    findings += coverage(file, built)
+    findings += coverage(file, built, slots)
     if total > len(broken):
         findings.append(Finding(Severity.NOTE, None, file.label, "", counted(total - len(broken), "more violation")))
     return Answer(file, [], findings, {}, {}, VIOLATED if total else ACCEPTED, total - len(broken))
 
 
-def refused(file, said):
+def refused(file, said, program=None):
     """The refusal of a text or an image, in the program's words and in more."""
     found = re.fullmatch(REFUSAL_OF_TEXT, said)
     if found:
+        said_line = explained_line(found[2], file.data, int(found[1]), program)
         finding = Finding(Severity.ERROR, Source(file.label, int(found[1])), "", "",
-                          f"refused, {explained(found[2], file.data)}", "refused")
+                          f"refused, {hinted(said_line, file.path, file.data)}", "refused")
     else:
-        finding = Finding(Severity.ERROR, None, file.label, "", str(RefusedInput(said, file.data)), "refused")
+        said_image = hinted(str(RefusedInput(said, file.data)), file.path, file.data)
+        finding = Finding(Severity.ERROR, None, file.label, "", said_image, "refused")
     file.fault = said
     return Refused(Answer(file, [], [finding], {}, {}), bool(directive_at(file.data, said)), int(found[1]) if found else 0)
 
@@ -84,13 +87,16 @@ def unread(file, none):
                                      f"not read without the GNU assembler: {none.why}", "refused")], {}, {})
 
 
-def coverage(file, built):
-    """A note where walks miss some bundles of a program: its verdict says nothing of these."""
+def coverage(file, built, slots):
+    """A note where walks miss some bundles of a program: its verdict says nothing of these. The slots of a text are found where
+    they aren't known yet."""
+    if not flow.may_miss(built.bundles):
+        return
     function = function_of(built)
     walked = flow.walks(function).walked
     missed = flow.off_walks(function, walked)
     if missed:
-        slots = slots_of_text(file.data) if file.kind is Kind.TEXT else []
+        slots = slots or (slots_of_text(file.data) if file.kind is Kind.TEXT else [])
         at = slots[missed[0]][0].line if missed[0] < len(slots) and slots[missed[0]] else None
         where = f"is bundle {missed[0]}" if at is None else f"begins here, bundle {missed[0]}"
         yield Finding(Severity.NOTE, Source(file.label, at) if at else None, "" if at else file.label, "",
@@ -116,7 +122,7 @@ def stops_off_walks(data, program):
 def function_of(parts):
     """The program as a function, for its walks."""
     section = Section(0, "", 0, len(parts.code), True, True)
-    return Function(section, 0, section.size, "", bundles=split_all(parts.code), entries=dict.fromkeys(parts.entries, "declared"))
+    return Function(section, 0, section.size, "", bundles=parts.bundles, entries=dict.fromkeys(parts.entries, "declared"))
 
 
 class Image(Parts):
@@ -133,7 +139,7 @@ class Image(Parts):
         return self.program.check(b"IA64IMG2" + count + self.head[12:] + code + END.packed() + self.rest)
 
 
-def text_findings(file, slots, broken, found, excused):
+def text_findings(file, slots, broken, found, excused, calls):
     """A message at the later slot of each pair, and a note at the earlier one. Where a pair shares its slots with a loop's
     edge, the later one in the group may stand before it in the text."""
     def slot(place):
@@ -142,12 +148,15 @@ def text_findings(file, slots, broken, found, excused):
         except IndexError:
             raise ProgramFault(f"the slots of {file.label} aren't where they were looked for") from None
 
+    def said_line(place):
+        return f"line {slot(place).line}"
+
     def finding(severity, at, text, rule="", is_further=False):
         return Finding(severity, Source(file.label, at.line, at.column), "", "", text, rule, is_further)
 
     for row in broken:
         first, second = slot(row.first), slot(row.second)
-        only = ways.said(found.get(row, ()), lambda place: f"line {slot(place).line}")
+        only = ways.said(found.get(row, ()), said_line) + ways.said_calls(calls.get(row, ()), said_line)
         said = said_pair(row, first.text, second.text)
         yield finding(Severity.ERROR, second, f"{row.rule} {row.resource}: {said}{only}", row.rule)
         yield finding(Severity.NOTE, first, f"'{first.text}' is here", is_further=True)
@@ -162,7 +171,7 @@ def said_pair(row, first, second):
     return RULES[row.rule].of_text.format(f"'{first}'", f"'{second}'")
 
 
-def image_findings(file, broken, found, excused, program):
+def image_findings(file, broken, found, excused, calls, program):
     """A message for each pair, with the texts of its slots and their places."""
     rows = program.listing(file.data) if broken or excused else []
     if isinstance(rows, Refusal):
@@ -173,7 +182,7 @@ def image_findings(file, broken, found, excused, program):
         return f"{row.rule} {row.resource}: {first} and {second} are in one group"
 
     for row in broken:
-        only = ways.said(found.get(row, ()), "{0[0]}.{0[1]}".format)
+        only = ways.said(found.get(row, ()), "{0[0]}.{0[1]}".format) + ways.said_calls(calls.get(row, ()), "{0[0]}.{0[1]}".format)
         yield Finding(Severity.ERROR, None, file.label, "", pair(row) + only, row.rule)
     for row in excused:
         yield Finding(Severity.NOTE, None, file.label, "", f"excused by predicates: {pair(row)}")

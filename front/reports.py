@@ -68,6 +68,10 @@ def code_answer(file, verdicts, options):
     findings = [Finding(message.severity, lines.get((verdict.function.section.index, *message.line_of)),
                         f"{file.label}({verdict.function.section.name}{message.offset:+#x})", verdict.function.name,
                         message.text, message.rule) for verdict, message in rows]
+    if not verdicts:
+        findings.append(Finding(Severity.WARNING, None, file.label, "", f"{NOT_JUDGED}: no function is in it", messages.UNJUDGED))
+    if options.verbose and file.reading:
+        findings.insert(0, Finding(Severity.NOTE, None, file.label, "", f"judged as {file.reading}"))
     return Answer(file, verdicts, findings, further, lines)
 
 
@@ -78,18 +82,19 @@ def source_lines(file, locations):
 
 
 class Counts:
-    """How many functions and programs there are of each verdict, why some aren't judged, and how many errors a baseline
-    knows."""
+    """How many functions and programs there are of each verdict, why some aren't judged, how many errors a baseline knows, and
+    how many files have no function."""
 
     def __init__(self):
         self.verdicts, self.reasons = Counter(), Counter()
-        self.stood_in, self.unlooked, self.errors, self.known = 0, 0, 0, 0
+        self.stood_in, self.unlooked, self.errors, self.known, self.bare = 0, 0, 0, 0, 0
         self.faults: List[str] = []
 
     def add(self, answer):
         self.faults += [f"{answer.file.label}: {answer.file.fault}"] if answer.file.fault is not None else []
         self.errors += sum(finding.severity is Severity.ERROR for finding in answer.findings) + answer.more
         self.errors += sum(verdict.total - len(verdict.violations) for verdict in answer.verdicts if not verdict.faults)
+        self.bare += answer.file.fault is None and not answer.word and not answer.verdicts
         if answer.word:
             self.verdicts[answer.word] += 1
         for verdict in answer.verdicts:
@@ -107,6 +112,7 @@ class Counts:
         self.faults += others.faults
         self.errors += others.errors
         self.known += others.known
+        self.bare += others.bare
 
     @staticmethod
     def reason(verdict, answer):

@@ -5,12 +5,18 @@ with a few words changed.
   all others are as they were. A taken branch ends its group, so no pair shares a group for it; but what is known of predicates may
   be lost on it. So where a pair doesn't clash any more then, but does so still where no other slot has a qualifying predicate,
   the way over this branch is why the pair isn't excused.
+- *The call*: a call becomes a `nop`. Then the bundle behind it is no entry for its sake, and what is known of predicates before
+  it is known behind it too. So where a pair doesn't clash any more then, but does so still without qualifying predicates, this
+  call is why the pair isn't excused.
 - *What predicates excuse*: all slots but branches, checks and breaks get p0 for their qualifying predicate. They are on the same
   walks then, and what clashes now and didn't before was excused by predicates.
 """
 
-from front.bundle import branches, is_break, split_all, with_branch
+from front.bundle import NOPS, branches, is_break, split_all, with_branch
 from front.program import Refusal
+
+# The major opcodes of calls in unit B, by a register and direct.
+CALLS = (1, 5)
 
 # Of a program with so many branches, violations and bundles ways are looked for, and so many bundles are checked for it.
 MOST_BRANCHES, MOST_VIOLATIONS, MOST_BUNDLES, WORK = 200, 20, 5000, 100_000
@@ -37,6 +43,28 @@ def ways(ask, code, broken):
         for row in gone & set(violations(ask(without_guards(changed)))) if gone else ():
             found.setdefault(row, []).append(((index, slot), index + away))
     return found
+
+
+def calls(ask, code, broken):
+    """Of each pair the calls without which predicates excuse it, looked for as far as ways are."""
+    bundles, found = split_all(code), {}
+    places = [(index, slot) for index, bundle in enumerate(bundles) for slot, unit in enumerate(bundle.units)
+              if unit == "b" and bundle.words[slot] >> 37 in CALLS]
+    if (not 0 < len(broken) <= MOST_VIOLATIONS or len(places) > MOST_BRANCHES or len(bundles) > MOST_BUNDLES
+            or len(places) * len(bundles) > WORK):
+        return found
+    for index, slot in places:
+        without = bundles[index].with_word(slot, NOPS["b"]).packed()
+        changed = code[:16 * index] + without + code[16 * index + 16:]
+        gone = set(broken) - set(violations(ask(changed)))
+        for row in gone & set(violations(ask(without_guards(changed)))) if gone else ():
+            found.setdefault(row, []).append((index, slot))
+    return found
+
+
+def said_calls(places, name):
+    """What is said of the calls of a pair behind it: nothing, or their places by their names."""
+    return f"; not excused for the sake of the call at {' and '.join(map(name, places))}" if places else ""
 
 
 def said(found, name):

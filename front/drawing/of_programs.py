@@ -3,7 +3,7 @@
 import struct
 
 from front import flow, messages, programs, texts, ways
-from front.bundle import branches, split_all
+from front.bundle import branches
 from front.drawing import figures
 from front.drawing.accesses import accesses_of
 from front.drawing.figure import Entry, Figure, Row
@@ -54,7 +54,7 @@ def figure(file, source, program, is_proved):
         raise RefusedInput(answer, file.data)
     total, broken = program.verdict(answer)
     image = programs.Image(file, program)
-    bundles = split_all(image.code)
+    bundles = image.bundles
     if len(bundles) > figures.MOST_BUNDLES:
         raise Fault(f"{len(bundles):,} bundles, and a picture has {figures.MOST_BUNDLES:,} at most")
     listing = program.listing(file.data)

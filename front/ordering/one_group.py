@@ -15,7 +15,6 @@ import random
 from itertools import permutations
 from typing import Dict, List, NamedTuple
 
-from front.bundle import split_all
 from front.faults import Fault
 from front.files import IMAGES
 from front.ordering import writes
@@ -83,7 +82,7 @@ class Asked:
     def with_breaks(self, positions):
         """The image with a `break` in each of these positions: a word of zeros, whatever the unit."""
         parts = Parts(self.image)
-        bundles = split_all(parts.code)
+        bundles = list(parts.bundles)
         for bundle, slot in positions:
             is_long = bundles[bundle].units == "mlx" and slot == 1
             bundles[bundle] = bundles[bundle].with_word(slot, 0).with_word(2 if is_long else slot, 0)

@@ -637,7 +637,7 @@ class Files(Case):
         self.assertEqual(self.call("sub/t.a"), (2, [f"sub/t.a:b.o{line}", "0 accepted, 1 violated, 0 not judged"],
                                                 "ia64: sub/t.a:missing.o: No such file or directory\n"))
         self.put(b"!<arch>\n" + member("note/", b"text"), "l.a")
-        self.assertEqual(self.call("l.a"), (2, ["l.a:note:1: error: refused, name: the leading word begins no line",
+        self.assertEqual(self.call("l.a"), (2, ["l.a:note:1: error: refused, name: the leading word begins no line: 'text'",
                                                 "0 accepted, 0 violated, 0 not judged"], ""))
         self.assertEqual(self.call(self.put(b"!<arch>\n", "l.a")), (0, ["0 accepted, 0 violated, 0 not judged"], ""))
 
@@ -968,8 +968,10 @@ g:
         self.assertTrue(got[1][3].startswith("s.s:32: error: s.s(.text+0x40) g: RAW r9: "), got[1])
         Path("wrong.s").write_text("no instruction\n")
         got = self.call("wrong.s", "s.o")
-        self.assertEqual((got[0], got[1][0], got[1][-1]), (2, "wrong.s:1: error: refused, name: the leading word begins no line",
+        self.assertEqual((got[0], got[1][0], got[1][-1]), (2, "wrong.s:1: error: refused, name: the leading word begins no line: "
+                                                           "'no instruction'",
                                                            "0 accepted, 2 violated, 0 not judged (1 of these functions with stand-ins)"))
+        self.assertEqual(got[1][1], "wrong.s:1: error: the GNU assembler: Unknown opcode `no instruction'")
         self.assertEqual(got[2], "")
         Path("wrong.s").write_text("        .prologue\n        no instruction\n")
         got = self.call("wrong.s")

@@ -140,7 +140,9 @@ class Calls(Case):
         Path("x.s").write_bytes(b"{ .mii\nadd r8=r9,r10\nadd r11=r8,r9 ;;\nbr.ret b0 ;;\n}\n")
         status, _, said = self.ia64("stops", "x.s")
         self.assertEqual((status, said), (0, "ia64: x.s: note: its bundles make no program, so it isn't known which of them walks "
-                                             "reach: the stops of the others are taken out too. --keep-stops keeps all stops\n"))
+                                             "reach: the stops of the others are taken out too. --keep-stops keeps all stops; "
+                                             "`ia64 check x.s` judges it as a source for the GNU assembler, and `ia64 show x.s` prints "
+                                             "the texts of its functions\n"))
 
     def test_what_goes_wrong(self):
         self.assertEqual(self.ia64("loosen", "nowhere"), (2, b"", "ia64: nowhere: No such file or directory\n"))

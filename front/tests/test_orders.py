@@ -114,18 +114,21 @@ class Examples(Compared):
 class Code(Compared):
     """Files that are no programs are refused by what they are, and how one is made of them is said."""
 
-    HINT = "`ia64 call FILE FUNCTION --image PATH` makes an image of a call, which run, watch, groups, trace and orders take\n"
+    HINT = "`ia64 call {} {} --image PATH` makes an image of a call, which run, watch, groups, trace and orders take\n"
     COMMANDS = (("orders",), ("run", 5), ("watch", 5), ("groups", 5, 0))
 
     def test_an_object_file(self):
         for words in (*self.COMMANDS, ("orders", "-n", 5)):
             status, printed, error = self.ia64(*words, ROOT / "examples" / "functions.o")
             self.assertEqual((status, printed), (2, b""), words)
-            self.assertTrue(error.endswith(f"functions.o: an object file or a linked one, and no program; {self.HINT}"), error)
+            hint = self.HINT.format(ROOT / "examples" / "functions.o", "swap")
+            self.assertTrue(error.endswith(f"functions.o: an object file or a linked one, and no program; {hint}"), error)
 
     def test_a_source(self):
         """A text named as a source that is refused at a directive which no text has."""
-        said = f"refused, line 7: name: the leading word begins no line; '.explicit' is of a source for the GNU assembler; {self.HINT}"
+        hint = self.HINT.format(example("functions"), "FUNCTION")
+        said = ("refused, line 7: name: the leading word begins no line: '.explicit'; '.explicit' is of a source for the GNU assembler; "
+                f"{hint}")
         status, printed, error = self.ia64("orders", example("functions"))
         self.assertEqual((status, printed), (2, b""))
         self.assertTrue(error.endswith(f"functions.s: {said}"), error)

@@ -9,7 +9,7 @@ import unittest
 import unittest.mock
 
 from front import texts
-from front.tests.case import FRONT, PROGRAM, ROOT, Case, asked
+from front.tests.case import FRONT, HAS_GNU, PROGRAM, ROOT, Case, asked
 
 WRONG = b"""// a text
 { .mii
@@ -67,9 +67,12 @@ class Programs(Case):
         said = ": error: refused, form: an operand or a mark is missing or left over, or no instruction has these operands"
         counts = "0 accepted, 0 violated, 0 not judged"
         text = self.put(WRONG.replace(b"x: // label", b"x: y"), "x")
+        said += ": 'x: y'"
         self.assertEqual(self.lines("check", text), (2, [f"x:8{said}", counts], ""))
-        # What might be a source for the GNU assembler is refused by both, and isn't one at its looks.
-        self.assertEqual(self.lines("check", self.put(WRONG.replace(b"x: // label", b"x: y"))), (2, [f"x.s:8{said}", counts], ""))
+        # What might be a source for the GNU assembler is refused by both, and each says why.
+        status, lines, error = self.lines("check", self.put(WRONG.replace(b"x: // label", b"x: y")))
+        self.assertEqual((status, lines[0], lines[-1], error), (2, f"x.s:8{said}", counts, ""))
+        self.assertEqual(any("the GNU assembler: Unknown opcode `y'" in line for line in lines[1:-1]), HAS_GNU)
         self.assertEqual(self.lines("check", self.put(b"IA64IMG1", "x"))[1][0],
                          "x: error: refused, image: short: it has fewer than 24 bytes")
 
@@ -296,7 +299,7 @@ class Commands(Case):
         for word, said in (("build", "line 1: name: the leading word begins no line"), ("lift", "image: magic: it doesn't begin with IA64IMG1 "
                                                                                       "or IA64IMG2, as an image does")):
             self.assertEqual(self.ia64(word, "x.a")[::2], (
-                3, f"ia64: x.a: refused, {said}; it is an archive: `ia64 check FILE` takes it, and `ar x` takes out its members\n"))
+                3, f"ia64: x.a: refused, {said}; it is an archive: `ia64 check x.a` takes it, and `ar x` takes out its members\n"))
         (self.folder / "y.a").write_bytes(b"!<arch>\n" + 2 * (head + member))
         said = "ia64: y.a: an archive of several files, and one is wanted: `ar x` takes out its members\n"
         self.assertEqual(self.ia64("show", "y.a"), (2, b"", said))

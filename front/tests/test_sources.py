@@ -1216,9 +1216,9 @@ class Verdicts(Case):
                  "2: error: not read without the GNU assembler: the directive '.rotr' isn't known here"),
                 ("{ .mii\n nop.m 0\n mov r8=psr\n nop.i 0\n}\n",
                  "3: error: not read without the GNU assembler: the register 'psr' is outside the profile, or isn't there"),
-                ("hello world\n", "1: error: refused, name: the leading word begins no line"),
-                ("{ .mii\n nop.m 0\n frob r1\n", "3: error: refused, name: the leading word begins no line"),
-                ("{ .mii\n nop.m 0\n adds r8=9000,r9\n nop.i 0\n}\n", "3: error: refused, range: a number outside its field")):
+                ("hello world\n", "1: error: refused, name: the leading word begins no line: 'hello world'"),
+                ("{ .mii\n nop.m 0\n frob r1\n", "3: error: refused, name: the leading word begins no line: 'frob r1'"),
+                ("{ .mii\n nop.m 0\n adds r8=9000,r9\n nop.i 0\n}\n", "3: error: refused, range: a number outside its field: 'adds r8=9000,r9'; in place of 9000 may stand -8192 to 8191")):
             self.assertEqual(self.check(text)[:2], (2, [f"x.s:{said}", "0 accepted, 0 violated, 0 not judged"]))
 
     def test_names_in_expressions(self):
@@ -1252,8 +1252,10 @@ class Verdicts(Case):
                 continue
             for seed in range(3):
                 changed = with_less_stops(text, seed).replace("\t.endp\n", "\t.endp copy, inner\n")
-                got = self.check(changed, "-v")
-                self.assertEqual(got[:2], self.lines("check", "x.s", "-v")[:2], f"{name} {seed}")
+                (status, lines, _), (wanted, others, _) = self.check(changed, "-v"), self.lines("check", "x.s", "-v")
+                self.assertEqual((status, lines[1:]), (wanted, others[1:]), f"{name} {seed}")
+                self.assertEqual([lines[0], others[0]], ["x.s: note: judged as it is read without the GNU assembler",
+                                                         "x.s: note: judged as the GNU assembler makes it"])
 
 
 if __name__ == "__main__":

@@ -581,7 +581,7 @@ class Refused(Traced):
         self.assertEqual(self.call(image)[:2], (3, ["image: length"]))
 
     def test_code(self):
-        self.refuses("`ia64 call FILE FUNCTION --image PATH` makes an image of a call", ROOT / "examples/functions.o")
+        self.refuses(f"`ia64 call {ROOT / 'examples/functions.o'} swap --image PATH` makes an image of a call", ROOT / "examples/functions.o")
         status, rows, error = self.call(self.text(".explicit\n"))
         self.assertEqual((status, rows), (3, ["line 1: name"]))
         self.assertIn("'.explicit' is of a source for the GNU assembler", error)

@@ -9,7 +9,7 @@ import re
 import struct
 from typing import List, NamedTuple, Tuple
 
-from front.bundle import slots_of, split_all
+from front.bundle import slots_of
 from front.ordering.answers import VIOLATED, Answers
 from front.ordering.states import State, position_of
 from front.program import CODE_AT, Parts
@@ -82,7 +82,7 @@ class Places:
 
 def bundles_of(image):
     """The bundles of an image."""
-    return split_all(Parts(image).code)
+    return Parts(image).bundles
 
 
 def steps(program, image, first=1, count=GROUP_LIMIT, places=None, look=changes):
