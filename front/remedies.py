@@ -33,11 +33,15 @@ def remedy(program, data, line, reason):
     return found(program, name) if found else ""
 
 
+# What isn't known where the program gives no answer.
+NO_ANSWER = "no answer"
+
+
 def reason_of(program, word, text):
-    """The reason why the program refuses a text, or nothing."""
+    """The reason why the program refuses a text, or nothing where it takes it."""
     status, printed = program.raw([word], text.encode("latin-1"))
     found = re.fullmatch(REFUSAL_OF_TEXT, printed.decode("latin-1").rstrip("\n")) if status == 3 else None
-    return found[2] if found else ""
+    return "" if status == 0 else found[2] if found else NO_ANSWER
 
 
 def either(words):

@@ -59,6 +59,13 @@ class Remedies(unittest.TestCase):
         """Where two numbers of a line are out of range, none alone makes it right."""
         self.assertEqual(self.said("extr r8=r9,64,65", "range"), "")
 
+    def test_a_program_without_an_answer(self):
+        """What it doesn't say is told of no line."""
+        program = Program(lambda: "")
+        with unittest.mock.patch.object(program, "raw", lambda words, data: (7, b"")):
+            for line, reason in (("adds r8=8192,r9", "range"), ("br.ret.sptk.few b0", "slot kind"), ("nop 0", "template")):
+                self.assertEqual(remedy(program, in_a_bundle(line), 2, reason), "", line)
+
     def test_units(self):
         for line, wanted in (("br.ret.sptk.few b0", "B"), ("br.cond.sptk.few nowhere", "B"), ("shl r8=r9,r10", "I"),
                              ("movl r8=5", "X")):
