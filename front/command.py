@@ -12,7 +12,7 @@ from pathlib import Path
 
 from front import VERSION, checking, files, gnu, reports, usage
 from front.checking import DONE, WRONG, complain
-from front.faults import Fault, ProgramFault, Unread, printable
+from front.faults import Fault, ProgramFault, Unread
 from front.files import Kind
 from front.functions import chosen
 from front.judging import Judge

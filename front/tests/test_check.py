@@ -24,7 +24,7 @@ from front.listing import END
 from front.program import Program
 from front.tests import case
 from front.tests.case import FRONT, HAS_GNU, PROGRAM, asked, needs_gnu
-from front.tests.writers import CODE_FLAGS, DATA_FLAGS, DIR64, PCREL21B, PCREL21M, PCREL64, READ_ONLY, REL64, Elf
+from front.tests.writers import DATA_FLAGS, DIR64, PCREL21B, PCREL21M, PCREL64, READ_ONLY, REL64, Elf
 
 # ---- Files -----------------------------------------------------------------------------------------------
 

@@ -9,7 +9,7 @@ import unittest
 from itertools import permutations
 from pathlib import Path
 
-from front import command, usage
+from front import command
 from front.ordering import one_group, order_words, orders, split, states, writes
 from front.program import Program
 from front.tests.case import FRONT, PROGRAM, ROOT, Case, asked
