@@ -16,11 +16,11 @@ from front import VERSION, command, usage  # noqa: E402
 STATUSES = """\
 0    as wanted; of check, no function and no program is violated; of call, the function came back
 1    one is violated; of orders, several states are left
-2    the words are wrong, or a file can't be read or is refused
+2    the arguments are wrong, or a file can't be read or is refused
 3    of check --strict, a function isn't judged; of orders, one state is left and the program isn't accepted; of call,
      it came to what can't be run; of the others, the program refused its input
 4..9, 125
-     see FORMATS.md, "Words and statuses"
+     see docs/use/commands.md, "Statuses" and "Exit statuses"
 """
 
 

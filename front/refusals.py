@@ -7,7 +7,7 @@ from front.faults import Fault, printable
 from front.files import Kind, kind_of, read_code
 from front.texts import REASONS, lines_of_text, parts_of
 
-# What the reasons of a refused image mean, in few words; docs/use/formats.md, "Printed texts", has them whole. Those of a text
+# What the reasons of a refused image mean, in few words; docs/use/commands.md, "Printed texts", has them whole. Those of a text
 # are `REASONS`.
 REASONS_OF_IMAGES = {
     "short": "it has fewer than 24 bytes",

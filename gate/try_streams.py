@@ -1,9 +1,9 @@
 #!/usr/bin/env python3
-"""Tries the built program and ./ia64 under closed, full, slow and broken streams, signals, odd words and small limits.
+"""Tries the built program and ./ia64 under closed, full, slow and broken streams, signals, odd arguments and small limits.
 
   gate/try_streams.py [PROGRAM]    PROGRAM is the built one of this repository where none is named
 
-What is wanted is what docs/use/commands.md says: "Words and statuses", "Streams, signals and memory".
+What is wanted is what docs/use/commands.md says: "Arguments and statuses", "Streams, signals and memory".
 
 What this machine gives no leave for, as a mount, is skipped, and the closing line says so.
 """
