@@ -1,4 +1,3 @@
 pub mod CodeSlots
 pub mod SlotSteps
-pub mod Advancing
 pub mod Groups

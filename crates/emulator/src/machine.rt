@@ -1,23 +1,20 @@
 //! The machine.
 
-ghost use Rattle.std.specs.Prelude.{◌≡◌, ◌<◌, ◌≤◌, ◌+◌, ◌^◌, IfOk, IfSome, MatchResult, Some, None, get_or};
+ghost use Rattle.std.specs.Prelude.{◌≡◌, ◌<◌, ◌≤◌, ◌+◌, ◌^◌, IfOk, IfSome, MatchResult, Some, None};
 ghost use Rattle.ia_meaning.specs.State.{zero_state};
 ghost use Rattle.ia_meaning.specs.Names.{look};
-ghost use Rattle.ia_meaning.specs.Moves.{predicate_word, application};
-ghost use Rattle.ia_meaning.specs.Progress.{begun, advanced, group_further, groups_further, end_of};
+ghost use Rattle.ia_meaning.specs.Progress.{begun, group_further, groups_further, end_of};
 ghost use Rattle.ia_meaning.specs.Runs.{event_further};
 ghost use Rattle.frame_shapes.specs.declared.fault.StackFault.TheVariants as fault;
-ghost use Rattle.machine_state.specs.Contents.{stack_of};
 ghost use Rattle.emulator.specs.Execution.{Execution, contents};
 
 use crate::code::Code;
 use crate::run::Run;
-use ia_insn::{Ar, Br, Gr};
+use ia_insn::Gr;
 use ia_meaning::{Cell, end_or};
 use ia_program::{End, GroupEvent, Place};
 use machine_state::MachineState;
-use nat_alat::{Alat, DataMem};
-use reg_stack::{Stack, StackFault};
+use reg_stack::StackFault;
 use slot_table::SlotTable;
 use std::alloc::{AllocError, Global};
 use std::marker::Model;
@@ -80,7 +77,7 @@ impl<'a> Machine<'a> {
     }
 
     /// What the machine holds: the registers, with the register stack, and the memory.
-    pub fn state(&self) -> &MachineState
+    pub(crate) fn state(&self) -> &MachineState
         ensures { result.now ≡ contents self.now.progress }
     {
         &self.run.state
@@ -97,59 +94,6 @@ impl<'a> Machine<'a> {
         self.run.state.general(r).ok_or(StackFault::OutOfFrame)
     }
 
-    /// The register stack: the stacked registers, the frame and the resident range.
-    pub fn stack(&self) -> &Stack
-        ensures { result.now ≡ stack_of (contents self.now.progress) }
-    {
-        self.run.state.stack()
-    }
-
-    /// The predicates as a word: bit n is that of place n.
-    pub fn pr_word(&self) -> u64
-        ensures { result ≡ predicate_word self.now.progress.state.registers.predicates }
-    {
-        self.run.state.predicate_word()
-    }
-
-    /// What a branch register holds.
-    pub fn br(&self, b: Br) -> u64
-        ensures { result ≡ get_or self.now.progress.state.registers.branches b 0 }
-    {
-        self.run.state.branch(b)
-    }
-
-    /// What an application register holds.
-    pub fn ar(&self, ar: Ar) -> u64
-        ensures { result ≡ application self.now.progress.state.registers ar }
-    {
-        self.run.state.application(ar)
-    }
-
-    /// The data.
-    pub fn data(&self) -> &DataMem
-        ensures { result.now ≡ self.now.progress.state.memory.bytes }
-    {
-        self.run.state.data()
-    }
-
-    /// The ALAT.
-    pub fn alat(&self) -> &Alat
-        ensures { result.now ≡ self.now.progress.state.memory.alat }
-    {
-        self.run.state.alat()
-    }
-
-    /// Runs one slot. It returns None exactly where the run goes on. After an end nothing changes any more, and the same end is
-    /// returned again.
-    pub fn step(&mut self) -> Option<End>
-        requires room { self.old.progress.groups + 1 < 2 ^ 64 }
-        ensures state { self.new ≡ record self.old { progress = advanced self.old.program self.old.progress } }
-        ensures end { result ≡ self.new.progress.end }
-    {
-        self.run.step(&self.code);
-        self.run.end
-    }
-
     /// Runs one group, or the rest of the one that is under way, and tells of it.
     pub fn step_group(&mut self) -> GroupEvent
         requires running { self.old.progress.end ≡ None }
@@ -157,7 +101,7 @@ impl<'a> Machine<'a> {
         ensures state { self.new ≡ record self.old { progress = group_further self.old.program self.old.progress } }
         ensures event { result ≡ event_further self.old.program self.old.progress }
     {
-        self.run.run_group(&self.code)
+        self.run.run_groups(&self.code, 1)
     }
 
     /// How the run ended; `Limit` where it may go on.

@@ -6,7 +6,7 @@ ghost use Rattle.ia_program.specs.Places.{place_at, IsPlaceOf};
 ghost use Rattle.ia_program.specs.declared.ending.End.TheVariants as end;
 ghost use Rattle.ia_program.specs.declared.ending.How.TheVariants as how;
 ghost use Rattle.ia_meaning.specs.declared.next.Next.TheVariants.{Falls};
-ghost use Rattle.ia_meaning.specs.Progress.{begun, opened, slots_after, stepped, advanced, group_further, groups_further};
+ghost use Rattle.ia_meaning.specs.Progress.{begun, opened, slots_after, stepped, advanced, groups_further};
 ghost use Rattle.ia_meaning.specs.Runs.{IsUnderWay, event_further};
 ghost use Rattle.ia_program.specs.Programs.{IsProgram};
 ghost use Rattle.ia_meaning.specs.Sequence.{first_of, next_of, is_stopped};
@@ -362,22 +362,6 @@ impl Run {
         self.run_slot(code)
     }
 
-    /// Runs one slot more, by what any slot does; after an end nothing changes.
-    #[tactic(auto, using(ia_meaning::proofs::WholeRuns::advanced_is, ia_meaning::proofs::GroupEnds::has_few_slots, ia_meaning::proofs::GroupEnds::advanced_ended))]
-    pub fn step(&mut self, code: &Code)
-        requires program { IsProgram code.now }
-        requires under_way { IsUnderWay code.now (progress_of self.old) }
-        requires room { self.old.groups + 1 < 2 ^ 64 }
-        ensures value { progress_of self.new ≡ advanced code.now (progress_of self.old) }
-        ensures under_way { IsUnderWay code.now (progress_of self.new) }
-    {
-        if self.end.is_none() {
-            self.open_group();
-            let slot = self.slot(code);
-            let _how = self.run_any(code, slot);
-        }
-    }
-
     /// Runs at most this number of groups, at least one, and tells of the last. A group that is under way is the first of
     /// them. Each has at most [`RUN_LIMIT`](ia_program::limits::RUN_LIMIT) slots.
     ///
@@ -408,18 +392,5 @@ impl Run {
                 }
             }
         }
-    }
-
-    /// Runs the group under way to its end, or the next one, and tells of it.
-    pub fn run_group(&mut self, code: &Code) -> GroupEvent
-        requires program { IsProgram code.now }
-        requires running { self.old.end ≡ None }
-        requires under_way { IsUnderWay code.now (progress_of self.old) }
-        requires room { self.old.groups + 1 < 2 ^ 64 }
-        ensures value { progress_of self.new ≡ group_further code.now (progress_of self.old) }
-        ensures event { result ≡ event_further code.now (progress_of self.old) }
-        ensures under_way { IsUnderWay code.now (progress_of self.new) }
-    {
-        self.run_groups(code, 1)
     }
 }

@@ -1,12 +1,12 @@
-//! A run slot by slot, and what its readers answer.
+//! A run slot by slot, in several calls. What one call leaves is tested with the whole program.
 
 use crate::program::program_of;
-use emulator::Machine;
-use ia_insn::{Ar, Br, Gr};
+use emulator::{Machine, state_text};
+use ia_insn::Gr;
 use ia_program::{End, GroupEvent, How, Place};
-use nat_alat::{AlatEntry, Spot};
 use reg_stack::StackFault;
 use slot_table::SlotTable;
+use std::alloc::Global;
 use std::process::Abort;
 use std::test::Fail;
 
@@ -47,122 +47,74 @@ word:
 data8 42
 ";
 
-/// Goes `count` steps, or fewer up to an end.
-fn steps(rt: &impl Abort, machine: &mut Machine, count: u8) -> Option<End> {
-    for _ in 0..count {
-        assert!(rt; machine.groups() < 100);
-        let end = machine.step();
-        if end.is_some() {
-            return end;
-        }
-    }
-    None
+/// The state before the last group. PFS and r33 have the privilege level 3 and the caller's frame of 3 registers, 2 of them
+/// local. The ALAT has the entry of the advanced load.
+const STATE: &str = "end limit at 5.0
+groups 5
+frame 2 sof 3 sol 3 sor 0 rrb 0 0 0
+rse 0 5 0 0
+r8 0000000000000005
+r9 0000000000100000
+r10 0000000000000006
+r11 0000000000000007
+r33 c000000000000103
+r34 000000000000002a
+pr 0000000000000041
+b1 0000000000010030
+b6 0000000000000007
+ar.pfs c000000000000103
+ar.lc 0000000000000006
+m 0000000000100000 000000000000002a
+alat s4 0000000000100000 8
+";
+
+/// The run comes to this end, in at most so many groups more.
+fn comes_to(rt: &impl Abort, machine: &mut Machine, groups: u8, end: End) {
+    assert!(rt; groups > 0 && machine.groups() < 100);
+    assert_eq!(rt; machine.run(u64::from(groups)), end);
 }
 
-/// The bundle and the slot of the place, the groups, the base, the size and the locals of the frame, the predicates, b1, b6,
-/// the loop count and PFS.
-fn seen(machine: &Machine) -> [u64; 11] {
-    let (place, frame) = (machine.place(), machine.stack().shape());
-    [
-        u64::from(place.bundle),
-        u64::from(place.slot),
-        machine.groups(),
-        u64::from(frame.base),
-        u64::from(frame.sof),
-        u64::from(frame.sol),
-        machine.pr_word(),
-        machine.br(Br::of_field(1)),
-        machine.br(Br::of_field(6)),
-        machine.ar(Ar::Lc),
-        machine.ar(Ar::Pfs),
-    ]
+/// The next group is told as this event.
+fn tells(rt: &impl Abort, machine: &mut Machine, event: GroupEvent) {
+    assert!(rt; machine.end().is_none());
+    assert!(rt; machine.groups() < 100);
+    assert_eq!(rt; machine.step_group(), event);
 }
 
-/// What it shows after the `alloc`, after the first group, and after the bundle of the callee's frame, each with the steps
-/// since the one before. There PFS has the privilege level 3 and the caller's frame of 3 registers, 2 of them local.
-const SEEN: [(u8, [u64; 11]); 3] = [
-    (1, [0, 1, 1, 0, 3, 2, 1, 0, 0, 0, 0]),
-    (2, [1, 0, 1, 0, 3, 2, 0x41, 0, 0, 0, 0]),
-    (8, [4, 0, 4, 2, 3, 3, 0x41, 0x1_0030, 7, 6, 3 << 62 | 0x103]),
-];
-
-/// After `count` steps without an end the ALAT has these entries, and the data begin with this byte, all others being 0.
-fn remembers(rt: &impl Abort, machine: &mut Machine, count: u8, entries: &[AlatEntry], byte: u8) {
-    assert_eq!(rt; steps(rt, machine, count), None);
-    assert_eq!(rt; machine.alat().entries(), entries);
-    assert_eq!(rt;
-        machine.data().bytes(),
-        [byte, 0, 0, 0, 0, 0, 0, 0].as_slice()
-    );
+/// The state is printed as this text.
+fn has_state(rt: &impl Abort, alloc: Global, machine: &Machine, state: &str) -> Result<(), Fail> {
+    let text = state_text(alloc, machine, &machine.ending())?;
+    assert!(rt; text.as_slice() == state.as_bytes());
+    Ok(())
 }
 
-/// The run comes to this end after `count` steps, in the sixth group.
-fn ends(rt: &impl Abort, machine: &mut Machine, count: u8, end: End) {
-    assert_eq!(rt; steps(rt, machine, count), Some(end));
-    assert_eq!(rt; machine.place(), Place { bundle: 5, slot: 2 });
-    assert_eq!(rt; machine.groups(), 6);
-}
-
-/// The entry of the advanced load is there until the store, and nothing changes after the end.
+/// A call goes on where the one before it came to the limit, and nothing changes after the end.
 #[test]
-fn slots_run_one_by_one(rt: HostRuntime) -> Result<(), Fail> {
+fn calls_go_on_up_to_an_end(rt: HostRuntime) -> Result<(), Fail> {
     let alloc = rt.alloc();
     let program = program_of(&rt, alloc, TEXT)?;
     let slots = SlotTable::open(alloc, &program)?;
     let mut machine = Machine::open(alloc, &slots)?;
-    for (count, want) in SEEN {
-        assert_eq!(rt; steps(&rt, &mut machine, count), None);
-        assert_eq!(rt; seen(&machine), want);
-    }
-    assert_eq!(rt; machine.gr(Gr::of_field(35)), Err(StackFault::OutOfFrame));
-
-    let entry = AlatEntry {
-        key: Spot::Stacked(4),
-        address: 0x10_0000,
-        size: 8,
-    };
-    remembers(&rt, &mut machine, 0, &[], 42);
-    remembers(&rt, &mut machine, 1, &[entry], 42);
-    remembers(&rt, &mut machine, 3, &[], 5);
-
-    let place = Place { bundle: 5, slot: 2 };
-    for count in [100, 1] {
-        ends(&rt, &mut machine, count, End::Break { imm: 9, place });
-    }
-    Ok(())
-}
-
-/// What is left of the group under way is the first group of a call.
-fn goes_on_within(rt: &impl Abort, machine: &mut Machine) {
-    assert!(rt; machine.end().is_none());
-    assert!(rt; machine.groups() < 100);
+    let place = Place { bundle: 1, slot: 0 };
+    comes_to(&rt, &mut machine, 1, End::Limit { place });
     let event = GroupEvent {
         number: 2,
-        first: Place { bundle: 1, slot: 0 },
+        first: place,
         last: Place { bundle: 1, slot: 1 },
         slots: 2,
         how: How::Falls,
     };
-    assert_eq!(rt; machine.step_group(), event);
-}
+    tells(&rt, &mut machine, event);
+    let place = Place { bundle: 5, slot: 0 };
+    comes_to(&rt, &mut machine, 3, End::Limit { place });
+    has_state(&rt, alloc, &machine, STATE)?;
+    assert_eq!(rt; machine.gr(Gr::of_field(35)), Err(StackFault::OutOfFrame));
 
-/// A run of two groups comes to the limit.
-fn comes_to_the_limit(rt: &impl Abort, machine: &mut Machine) {
-    assert!(rt; machine.groups() < 100);
-    let place = Place { bundle: 4, slot: 0 };
-    assert_eq!(rt; machine.run(2), End::Limit { place });
-    assert_eq!(rt; machine.groups(), 4);
-}
-
-#[test]
-fn groups_go_on_within(rt: HostRuntime) -> Result<(), Fail> {
-    let alloc = rt.alloc();
-    let program = program_of(&rt, alloc, TEXT)?;
-    let slots = SlotTable::open(alloc, &program)?;
-    let mut machine = Machine::open(alloc, &slots)?;
-    assert_eq!(rt; steps(&rt, &mut machine, 4), None);
-    goes_on_within(&rt, &mut machine);
-    assert_eq!(rt; steps(&rt, &mut machine, 1), None);
-    comes_to_the_limit(&rt, &mut machine);
+    let place = Place { bundle: 5, slot: 2 };
+    for groups in [100, 1] {
+        comes_to(&rt, &mut machine, groups, End::Break { imm: 9, place });
+        assert_eq!(rt; machine.groups(), 6);
+        assert_eq!(rt; machine.place(), place);
+    }
     Ok(())
 }
