@@ -94,12 +94,6 @@ end_stages count s =
 abbrev pub program_reading : LineReading TextParts
 program_reading = record { start = start; after = after; stages = value_stages; ends = end_stages }
 
-abbrev pub IsRefused : TextParts → List ℕ → Reason → Type 0
-IsRefused s line reason = IsRefusedBy program_reading s line reason
-
-abbrev pub IsTaken : TextParts → List ℕ → Line → Type 0
-IsTaken s line value = IsTakenBy program_reading s line value
-
 abbrev pub ComesTo : TextParts → ℕ → List (List ℕ) → Result TextParts TextError → Type 0
 ComesTo s n lines r = ComesToBy program_reading s n lines r
 

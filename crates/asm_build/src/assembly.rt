@@ -1,6 +1,6 @@
 //! The program that a text says.
 
-ghost use Rattle.std.specs.Prelude.{◌≡◌, ◌≢◌, ◌⊎◌, ◌<◌, ◌+◌, ◌^◌, None, Some, Ok, Err, IfOk, IfErr, OnOk, length};
+ghost use Rattle.std.specs.Prelude.{◌≡◌, ◌≢◌, ◌⊎◌, ◌<◌, ◌+◌, ◌^◌, None, Some, Ok, Err, IfOk, IfErr, length};
 ghost use Rattle.first_fault.specs.Stages.{ArePassed, IsFirstFault};
 ghost use Rattle.ia_program.specs.declared.place.Place.{Place as PlaceOf};
 ghost use Rattle.ia_program.specs.Bundles.{AreBundles};
@@ -8,72 +8,24 @@ ghost use Rattle.ia_program.specs.Places.{EachPlace, IsFirstBad};
 ghost use Rattle.ia_program.specs.Programs.{Program as ProgramOf, AreInRange, AreEntries, AreRelations};
 ghost use Rattle.ia_program.specs.Runs.{IsWithinRun};
 ghost use Rattle.ia_program.specs.Targets.{IsTargetInside};
-ghost use Rattle.asm_reading.specs.declared.line.Line.{Line as LineValue};
-ghost use Rattle.asm_build.specs.declared.reason.Reason.{Reason as ReasonOf};
 ghost use Rattle.asm_build.specs.declared.reason.Reason.TheVariants as reason;
 ghost use Rattle.asm_build.specs.declared.reason.TextError.{TextError as ErrorOf};
 ghost use Rattle.asm_build.specs.declared.reason.TextError.TheVariants as error;
 ghost use Rattle.asm_build.specs.Names.{name_fault, program_of, padded, line_at, earlier_of};
-ghost use Rattle.asm_build.specs.TextParts.{AreLabelsInside, after, start};
-ghost use Rattle.asm_build.specs.TextReading.{IsRefused, IsTaken, ComesTo, text_lines, Reads, HasTextFault, end_stages};
+ghost use Rattle.asm_build.specs.TextParts.{AreLabelsInside};
+ghost use Rattle.asm_build.specs.TextReading.{Reads, HasTextFault, end_stages};
 
 use crate::data::padded;
 use crate::draft::BundleLines;
 use crate::laws::{no_fault_where_read, one_text_fault, one_text_program};
 use crate::names::bundles_named;
-use crate::reason::{Reason, TextError, fault, reason_of};
+use crate::reading::take_lines;
+use crate::reason::{Reason, TextError, fault};
 use crate::relations::all_related;
 use crate::text_parts::TextParts;
-use asm_lexemes::limits::LINE_LIMIT;
-use asm_text::{Line, LineBuffers, read_line_into};
-use bstr::ByteSlice;
 use ia_program::{BundleOf, Place, Program, Relation, long_run};
 use std::alloc::{AllocError, Global};
 use std::collections::BTreeSet;
-
-/// Takes the n-th line, which is read with these buffers and put into `value`.
-fn take_line(
-    parts: &mut TextParts,
-    buffers: &mut LineBuffers,
-    value: &mut Line,
-    n: u32,
-    line: &[u8],
-) -> Result<(), TextError>
-    ensures ok { OnOk result ((said : LineValue) × IsTaken parts.old line.now said × (parts.new ≡ after parts.old n said)) }
-    ensures err { IfErr result (λ e. (e ≡ error.Memory) ⊎ ((why : ReasonOf) × (e ≡ error.Fault n why) × IsRefused parts.old line.now why)) }
-{
-    if line.len() > LINE_LIMIT {
-        return Err(fault(n, Reason::Limit));
-    }
-    match read_line_into(line, buffers, value) {
-        Ok(()) => parts.take(n, value),
-        Err(why) => Err(fault(n, reason_of(why))),
-    }
-}
-
-/// What is read of a text: what its lines say, and how many there are.
-#[derive(Drop)]
-struct Lines {
-    parts: TextParts,
-    count: u32,
-}
-
-/// Takes the lines of a text.
-fn take_lines(alloc: Global, text: &[u8]) -> Result<Lines, TextError>
-    requires { length text.now + 1 < 2 ^ 32 }
-    ensures ok { IfOk result (λ lines. ComesTo start 1 (text_lines text.now) (Ok lines.parts) × (lines.count ≡ length (text_lines text.now))) }
-    ensures err { IfErr result (λ e. (e ≡ error.Memory) ⊎ ComesTo start 1 (text_lines text.now) (Err e)) }
-{
-    let mut parts = TextParts::new(alloc);
-    let mut buffers = LineBuffers::new();
-    let mut value = Line::Empty;
-    let mut count = 0;
-    for line in text.lines() {
-        count += 1;
-        take_line(&mut parts, &mut buffers, &mut value, count, line)?;
-    }
-    Ok(Lines { parts, count })
-}
 
 /// Of two faults of lines, that of the earlier line.
 pub fn earlier(first: TextError, second: TextError) -> TextError
@@ -158,13 +110,12 @@ fn checked(
     }
 }
 
-/// The program that the lines of a text say, or the first fault after the last of them.
-fn finish(alloc: Global, lines: Lines) -> Result<Program, TextError>
-    requires { lines.count + 1 < 2 ^ 32 }
-    ensures ok { IfOk result (λ p. ArePassed (end_stages lines.count lines.parts) × (p ≡ program_of lines.parts)) }
-    ensures err { IfErr result (λ e. (e ≡ error.Memory) ⊎ IsFirstFault (end_stages lines.count lines.parts) e) }
+/// The program that so many lines of a text say, or the first fault after the last of them.
+fn finish(alloc: Global, parts: TextParts, count: u32) -> Result<Program, TextError>
+    requires { count + 1 < 2 ^ 32 }
+    ensures ok { IfOk result (λ p. ArePassed (end_stages count parts) × (p ≡ program_of parts)) }
+    ensures err { IfErr result (λ e. (e ≡ error.Memory) ⊎ IsFirstFault (end_stages count parts) e) }
 {
-    let Lines { parts, count } = lines;
     let end = count + 1;
     if parts.is_open || !parts.are_labels_inside() {
         return Err(fault(end, Reason::Misplaced));
@@ -186,8 +137,9 @@ fn read(alloc: Global, text: &[u8]) -> Result<Program, TextError>
     ensures found { IfOk result (Reads text.now) }
     ensures fault { IfErr result (λ e. (e ≡ error.Memory) ⊎ HasTextFault text.now e) }
 {
-    let lines = take_lines(alloc, text)?;
-    finish(alloc, lines)
+    let mut parts = TextParts::new(alloc);
+    let count = take_lines(&mut parts, text)?;
+    finish(alloc, parts, count)
 }
 
 /// The program that a text says.

@@ -1,12 +1,12 @@
 //! Programs as text, both ways.
 //!
-//! [`assemble`] takes the lines of a text one by one: `text_parts` keeps what they say so far, with the bundle that
-//! is open in `draft`, and after the last line `names` puts in what labels name, and `relations` gathers the declared
+//! [`assemble`] takes the lines of a text one by one (`reading`): `text_parts` keeps what they say so far, with the bundle
+//! that is open in `draft`, and after the last line `names` puts in what labels name, and `relations` gathers the declared
 //! relations. It returns the program that the text says, or its first fault. [`disassemble`] gives the canonical text
 //! of a program, which reads as the program again, and [`list`] its bundles by their bytes.
 //!
 //! A text without bundles has labels, entries, relations and data too: [`TextParts`] keeps what such lines say, and is
-//! public with what is left to do with them after the last line.
+//! public with what is left to do with them after the last line. [`take_lines`] takes the lines of either.
 #![tactic(auto)]
 
 mod address;
@@ -20,6 +20,7 @@ mod laws;
 pub mod limits;
 mod listing;
 mod names;
+mod reading;
 mod reason;
 mod relations;
 mod template_name;
@@ -34,6 +35,7 @@ pub use laws::{
     text_or_fault, texts_mean_their_lines,
 };
 pub use listing::{list, list_of};
+pub use reading::{TakesLines, take_lines};
 pub use reason::{Reason, TextError, fault, reason_of};
 pub use relations::relate_line;
 pub use text_parts::{EntryLine, RelationLine, Section, TextParts};

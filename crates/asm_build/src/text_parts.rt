@@ -11,10 +11,12 @@ ghost use Rattle.asm_build.specs.TextParts.{TextParts as PartsOf, current_of, st
 ghost use Rattle.asm_build.specs.declared.text_parts.Section.TheVariants as section;
 ghost use Rattle.asm_build.specs.Addresses.{IsReachable};
 ghost use Rattle.asm_build.specs.Names.{padded};
+ghost use Rattle.asm_build.specs.TextReading.{program_reading};
 
 use crate::address::Address;
 use crate::data::padded;
 use crate::draft::{BundleLines, Open};
+use crate::reading::TakesLines;
 use crate::reason::{Reason, TextError, fault};
 use asm_lexemes::Name;
 use asm_text::{Draft, Line, Predicates, TemplateName, Values};
@@ -91,34 +93,6 @@ impl TextParts {
             relations: Vec::new(alloc),
             labels: BTreeMap::new(alloc),
             data: Vec::new(alloc),
-        }
-    }
-
-    /// Takes what the n-th line says, and the name of a target out of it.
-    ///
-    /// # Errors
-    ///
-    /// The first fault of the line after those before it, or want of memory. Nothing is said of what stands here then,
-    /// and nothing more is taken.
-    pub(crate) fn take(&mut self, n: u32, value: &mut Line) -> Result<(), TextError>
-        requires { IsListedLine value.old }
-        ensures ok { OnOk result (ArePassed (value_stages self.old value.old) × (self.new ≡ after self.old n value.old)) }
-        ensures err { IfErr result (IsValueError self.old n value.old) }
-    {
-        match value {
-            Line::Empty => Ok(()),
-            Line::Label { name } => self.label(n, name.clone()?),
-            Line::Text => self.turn_to(n, Section::Text),
-            Line::Data => self.turn_to(n, Section::Data),
-            Line::Entry { name } => self.entry(n, name.clone()?),
-            Line::Relation { predicates } => self.relation(n, predicates.clone()?),
-            Line::Ignored => self.ignored(n),
-            Line::Numbers { size, values } => self.numbers(n, *size, values),
-            Line::Skip { count } => self.skip(n, *count),
-            Line::Open { name } => self.begin(n, *name),
-            Line::Slot { draft, stop } => self.slot(n, draft, *stop),
-            Line::Stop => self.stop(n),
-            Line::Close => self.close(n),
         }
     }
 
@@ -410,6 +384,33 @@ impl TextParts {
         ensures { IfOk result (λ bytes. bytes.items ≡ padded self.bytes) }
     {
         padded(self.data)
+    }
+}
+
+impl TakesLines for TextParts {
+    ghost reading = { program_reading };
+
+    /// Takes what the n-th line says, and the name of a target out of it.
+    fn take(&mut self, n: u32, value: &mut Line) -> Result<(), TextError>
+        requires { IsListedLine value.old }
+        ensures ok { OnOk result (ArePassed (value_stages self.old value.old) × (self.new ≡ after self.old n value.old)) }
+        ensures err { IfErr result (IsValueError self.old n value.old) }
+    {
+        match value {
+            Line::Empty => Ok(()),
+            Line::Label { name } => self.label(n, name.clone()?),
+            Line::Text => self.turn_to(n, Section::Text),
+            Line::Data => self.turn_to(n, Section::Data),
+            Line::Entry { name } => self.entry(n, name.clone()?),
+            Line::Relation { predicates } => self.relation(n, predicates.clone()?),
+            Line::Ignored => self.ignored(n),
+            Line::Numbers { size, values } => self.numbers(n, *size, values),
+            Line::Skip { count } => self.skip(n, *count),
+            Line::Open { name } => self.begin(n, *name),
+            Line::Slot { draft, stop } => self.slot(n, draft, *stop),
+            Line::Stop => self.stop(n),
+            Line::Close => self.close(n),
+        }
     }
 }
 

@@ -6,10 +6,11 @@ ghost use Rattle.ia_program.specs.declared.limits.TheConstants.{BUNDLE_LIMIT};
 ghost use Rattle.asm_reading.specs.declared.line.Line.TheVariants as line;
 ghost use Rattle.asm_build.specs.TextParts.{AreLabelsBelow};
 ghost use Rattle.loose_text.specs.LooseParts.{LooseParts as PartsOf, start, items_of, after, value_stages, IsValueError, IsNarrow};
+ghost use Rattle.loose_text.specs.LooseReading.{loose_reading};
 ghost use Rattle.loose_items.specs.PlainPackings.{ArePacked};
 
 use crate::item::{ItemLine, insn_of};
-use asm_build::{Address, Reason, RelationLine, Section, TextError, TextParts, fault};
+use asm_build::{Address, Reason, RelationLine, Section, TakesLines, TextError, TextParts, fault};
 use asm_lexemes::Name;
 use asm_text::{Draft, Line, Predicates};
 use ia_insn::Op;
@@ -76,32 +77,6 @@ impl LooseParts {
         self.items.len() as u32
     }
 
-    /// Takes what the n-th line says.
-    ///
-    /// # Errors
-    ///
-    /// The first fault of the line, or want of memory. Nothing is said of what stands here then, and nothing more is
-    /// taken.
-    pub fn take(&mut self, n: u32, value: Line) -> Result<(), TextError>
-        ensures ok { OnOk result (ArePassed (value_stages self.old value) × (self.new ≡ after self.old n value)) }
-        ensures err { IfErr result (IsValueError self.old n value) }
-    {
-        match value {
-            Line::Empty => Ok(()),
-            Line::Label { name } => self.label(n, name),
-            Line::Text => self.declared.turn_to(n, Section::Text),
-            Line::Data => self.declared.turn_to(n, Section::Data),
-            Line::Entry { name } => self.declared.entry(n, name),
-            Line::Relation { predicates } => self.relation(n, predicates),
-            Line::Ignored => self.declared.ignored(n),
-            Line::Numbers { size, values } => self.declared.numbers(n, size, &values),
-            Line::Skip { count } => self.declared.skip(n, count),
-            Line::Open { .. } | Line::Close => Err(fault(n, Reason::Misplaced)),
-            Line::Slot { draft, stop } => self.slot(n, draft, stop),
-            Line::Stop => self.stop(n),
-        }
-    }
-
     /// Whether there is an instruction.
     pub fn has_items(&self) -> bool
         ensures { IsTrue result ↔ (1 ≤ length self.now.items) }
@@ -142,11 +117,11 @@ impl LooseParts {
         Ok(())
     }
 
-    fn slot(&mut self, n: u32, draft: Draft, stop: bool) -> Result<(), TextError>
-        ensures ok { OnOk result (ArePassed (value_stages self.old (line.Slot draft stop)) × (self.new ≡ after self.old n (line.Slot draft stop))) }
-        ensures err { IfErr result (IsValueError self.old n (line.Slot draft stop)) }
+    fn slot(&mut self, n: u32, draft: &mut Draft, stop: bool) -> Result<(), TextError>
+        ensures ok { OnOk result (ArePassed (value_stages self.old (line.Slot draft.old stop)) × (self.new ≡ after self.old n (line.Slot draft.old stop))) }
+        ensures err { IfErr result (IsValueError self.old n (line.Slot draft.old stop)) }
     {
-        if !has_narrow_number(&draft) {
+        if !has_narrow_number(draft) {
             return Err(fault(n, Reason::Range));
         }
         if !self.declared.is_in_text() {
@@ -154,7 +129,7 @@ impl LooseParts {
         }
         let item = Item {
             line: n,
-            insn: insn_of(&draft),
+            insn: insn_of(draft),
             breaks: self.fresh,
             written: stop,
         };
@@ -163,7 +138,7 @@ impl LooseParts {
         };
         self.items.push(ItemLine {
             item,
-            target: draft.target,
+            target: draft.target.take(),
         })?;
         self.packing = Some(packing);
         self.fresh = false;
@@ -180,5 +155,30 @@ impl LooseParts {
         let last = self.items.len() - 1;
         self.items[last].item.written = true;
         Ok(())
+    }
+}
+
+impl TakesLines for LooseParts {
+    ghost reading = { loose_reading };
+
+    /// Takes what the n-th line says, and the name of a target out of it.
+    fn take(&mut self, n: u32, value: &mut Line) -> Result<(), TextError>
+        ensures ok { OnOk result (ArePassed (value_stages self.old value.old) × (self.new ≡ after self.old n value.old)) }
+        ensures err { IfErr result (IsValueError self.old n value.old) }
+    {
+        match value {
+            Line::Empty => Ok(()),
+            Line::Label { name } => self.label(n, name.clone()?),
+            Line::Text => self.declared.turn_to(n, Section::Text),
+            Line::Data => self.declared.turn_to(n, Section::Data),
+            Line::Entry { name } => self.declared.entry(n, name.clone()?),
+            Line::Relation { predicates } => self.relation(n, predicates.clone()?),
+            Line::Ignored => self.declared.ignored(n),
+            Line::Numbers { size, values } => self.declared.numbers(n, *size, values),
+            Line::Skip { count } => self.declared.skip(n, *count),
+            Line::Open { .. } | Line::Close => Err(fault(n, Reason::Misplaced)),
+            Line::Slot { draft, stop } => self.slot(n, draft, *stop),
+            Line::Stop => self.stop(n),
+        }
     }
 }

@@ -1,14 +1,10 @@
 //! The loose text that a text says.
 
-ghost use Rattle.std.specs.Prelude.{◌≡◌, ◌≢◌, ◌⊎◌, ◌<◌, ◌+◌, ◌^◌, Ok, Err, IfOk, IfErr, OnOk, length};
+ghost use Rattle.std.specs.Prelude.{◌≡◌, ◌≢◌, ◌⊎◌, ◌<◌, ◌+◌, ◌^◌, Ok, Err, IfOk, IfErr, length};
 ghost use Rattle.first_fault.specs.Stages.{ArePassed, IsFirstFault};
-ghost use Rattle.asm_reading.specs.declared.line.Line.{Line as LineValue};
-ghost use Rattle.asm_build.specs.declared.reason.Reason.{Reason as ReasonOf};
 ghost use Rattle.asm_build.specs.declared.reason.TextError.{TextError as ErrorOf};
 ghost use Rattle.asm_build.specs.declared.reason.TextError.TheVariants as error;
-ghost use Rattle.asm_build.specs.TextReading.{IsRefusedBy, IsTakenBy, ComesToBy, AllSayBy, text_lines};
-ghost use Rattle.loose_text.specs.LooseParts.{after, start};
-ghost use Rattle.loose_text.specs.LooseReading.{loose_reading, loose_of, end_stages, ReadsLoose, HasLooseFault};
+ghost use Rattle.loose_text.specs.LooseReading.{loose_of, end_stages, ReadsLoose, HasLooseFault};
 ghost use Rattle.loose_text.specs.LooseTexts.{Loose};
 ghost use Rattle.loose_text.specs.SoundParts.{IsSound};
 
@@ -17,63 +13,16 @@ use crate::loose::LooseText;
 use crate::parts::LooseParts;
 use crate::relations::all_related;
 use crate::targets::{items_of, named};
-use asm_build::{Reason, TextError, fault, reason_of, rising};
-use asm_lexemes::limits::LINE_LIMIT;
-use asm_text::{Line, LineBuffers, read_line_into};
-use bstr::ByteSlice;
+use asm_build::{Reason, TextError, fault, rising, take_lines};
 use std::alloc::Global;
 
-/// Takes the n-th line, which is read with these buffers.
-fn take_line(
-    parts: &mut LooseParts,
-    buffers: &mut LineBuffers,
-    n: u32,
-    line: &[u8],
-) -> Result<(), TextError>
-    ensures ok { OnOk result ((value : LineValue) × IsTakenBy loose_reading parts.old line.now value × (parts.new ≡ after parts.old n value)) }
-    ensures err { IfErr result (λ e. (e ≡ error.Memory) ⊎ ((why : ReasonOf) × (e ≡ error.Fault n why) × IsRefusedBy loose_reading parts.old line.now why)) }
+/// The loose text that so many lines of a text say, or the first fault after the last of them.
+fn finish(alloc: Global, parts: LooseParts, count: u32) -> Result<LooseText, TextError>
+    requires count { count + 1 < 2 ^ 32 }
+    requires sound { IsSound parts }
+    ensures ok { IfOk result (λ t. ArePassed (end_stages count parts) × (t ≡ loose_of parts)) }
+    ensures err { IfErr result (λ e. (e ≡ error.Memory) ⊎ IsFirstFault (end_stages count parts) e) }
 {
-    if line.len() > LINE_LIMIT {
-        return Err(fault(n, Reason::Limit));
-    }
-    let mut value = Line::Empty;
-    match read_line_into(line, buffers, &mut value) {
-        Ok(()) => parts.take(n, value),
-        Err(why) => Err(fault(n, reason_of(why))),
-    }
-}
-
-/// What is read of a text: what its lines say, and how many there are.
-#[derive(Drop)]
-struct Lines {
-    parts: LooseParts,
-    count: u32,
-}
-
-/// Takes the lines of a text.
-fn take_lines(alloc: Global, text: &[u8]) -> Result<Lines, TextError>
-    requires { length text.now + 1 < 2 ^ 32 }
-    ensures ok { IfOk result (λ lines. AllSayBy loose_reading text.now lines.parts × (lines.count ≡ length (text_lines text.now))) }
-    ensures err { IfErr result (λ e. (e ≡ error.Memory) ⊎ ComesToBy loose_reading start 1 (text_lines text.now) (Err e)) }
-{
-    let mut parts = LooseParts::new(alloc);
-    let mut buffers = LineBuffers::new();
-    let mut count = 0;
-    for line in text.lines() {
-        count += 1;
-        take_line(&mut parts, &mut buffers, count, line)?;
-    }
-    Ok(Lines { parts, count })
-}
-
-/// The loose text that the lines of a text say, or the first fault after the last of them.
-fn finish(alloc: Global, lines: Lines) -> Result<LooseText, TextError>
-    requires count { lines.count + 1 < 2 ^ 32 }
-    requires sound { IsSound lines.parts }
-    ensures ok { IfOk result (λ t. ArePassed (end_stages lines.count lines.parts) × (t ≡ loose_of lines.parts)) }
-    ensures err { IfErr result (λ e. (e ≡ error.Memory) ⊎ IsFirstFault (end_stages lines.count lines.parts) e) }
-{
-    let Lines { parts, count } = lines;
     let end = count + 1;
     if !parts.are_labels_inside() {
         return Err(fault(end, Reason::Misplaced));
@@ -96,8 +45,9 @@ fn read(alloc: Global, text: &[u8]) -> Result<LooseText, TextError>
     ensures found { IfOk result (ReadsLoose text.now) }
     ensures fault { IfErr result (λ e. (e ≡ error.Memory) ⊎ HasLooseFault text.now e) }
 {
-    let lines = take_lines(alloc, text)?;
-    finish(alloc, lines)
+    let mut parts = LooseParts::new(alloc);
+    let count = take_lines(&mut parts, text)?;
+    finish(alloc, parts, count)
 }
 
 /// The loose text that a text says.

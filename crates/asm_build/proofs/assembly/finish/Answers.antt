@@ -6,11 +6,11 @@ use Rattle.asm_build.proofs.Finishing.{AreRelated, AreParts, related_of, parts_i
 use Rattle.asm_build.proofs.RelationSets.{relations_of_all}
 use Rattle.asm_build.proofs.assembly.finish.Goals as goal
 
-parts : (c : goal.After-deref-4) → AreParts c.args.lines.parts c.in_ok-named.named.bundles.items c.in_ok-entries.entries.items
+parts : (c : goal.After-deref-4) → AreParts c.args.parts c.in_ok-named.named.bundles.items c.in_ok-entries.entries.items
     c.in_ok-bytes.bytes.items c.in_ok-relations.relations.items
 parts c =
-    let inside : AreLabelsInside c.args.lines.parts = search rules in
-    let some : 1 ≤ length c.args.lines.parts.bundles = search rules in
+    let inside : AreLabelsInside c.args.parts = search rules in
+    let some : 1 ≤ length c.args.parts.bundles = search rules in
     let bundles : c.deref.result.now ≡ c.in_ok-named.named.bundles.items = search rules in
     let entries : c.deref-2.result.now ≡ c.in_ok-entries.entries.items = search rules in
     let lines : c.deref-3.result.now ≡ c.parts.inside.relations.items = search rules in
@@ -25,7 +25,7 @@ parts c =
       entries_are = entries_are;
       bytes_are = rw (sym c.parts.view_is) c.in_ok-bytes.ensures;
       related =
-          related_of c.args.lines.parts c.deref.result.now c.deref-2.result.now c.deref-3.result.now (bundles ∙ c.in_ok-named.ensures.ok.1)
+          related_of c.args.parts c.deref.result.now c.deref-2.result.now c.deref-3.result.now (bundles ∙ c.in_ok-named.ensures.ok.1)
           (entries ∙ entries_are) (rw (sym c.parts.view_is) lines) related.0;
       relations_are = rw (sym c.parts.view_is) (c.in_ok-relations.ensures ∙ related.1 ∙ ap (λ ls. all_related [] ls) lines);
     }
@@ -50,16 +50,16 @@ checked-requires-clause-relations c =
 
 pub returns-clause-err : goal.returns-clause-err
 returns-clause-err c =
-    let closed : c.args.lines.parts.current ≡ None = search rules in
-    let inside : AreLabelsInside c.args.lines.parts = search rules in
-    let some : 1 ≤ length c.args.lines.parts.bundles = search rules in
+    let closed : c.args.parts.current ≡ None = search rules in
+    let inside : AreLabelsInside c.args.parts = search rules in
+    let some : 1 ≤ length c.args.parts.bundles = search rules in
     let same : c.deref-4.result.now ≡ c.parts.inside.bundles.items = search rules in
     let bundles : c.deref.result.now ≡ c.in_ok-named.named.bundles.items = search rules in
     let entries : c.deref-2.result.now ≡ c.in_ok-entries.entries.items = search rules in
     let lines : c.deref-3.result.now ≡ c.parts.inside.relations.items = search rules in
     let entries_are = c.in_ok-entries.ensures ∙ c.in_ok-named.ensures.ok.2 in
-    let related : AreRelated c.args.lines.parts =
-    related_of c.args.lines.parts c.deref.result.now c.deref-2.result.now c.deref-3.result.now (bundles ∙ c.in_ok-named.ensures.ok.1)
+    let related : AreRelated c.args.parts =
+    related_of c.args.parts c.deref.result.now c.deref-2.result.now c.deref-3.result.now (bundles ∙ c.in_ok-named.ensures.ok.1)
     (entries ∙ entries_are) (rw (sym c.parts.view_is) lines) c.in_ok-related.ensures.ok.0 in
-    run_reported c.args.lines.count c.args.lines.parts c.deref-4.result.now c.in_ok-named.named.bundles.items c.checked.result closed inside
-    some c.in_ok-named.ensures.ok.0 related (rw (sym c.parts.view_is) same) c.in_ok-named.ensures.ok.1 c.checked.ensures.err
+    run_reported c.args.count c.args.parts c.deref-4.result.now c.in_ok-named.named.bundles.items c.checked.result closed inside some
+    c.in_ok-named.ensures.ok.0 related (rw (sym c.parts.view_is) same) c.in_ok-named.ensures.ok.1 c.checked.ensures.err

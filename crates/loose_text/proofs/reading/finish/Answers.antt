@@ -14,20 +14,20 @@ use Rattle.loose_text.proofs.reading.finish.Goals as goal
 
 pub returns-in_err-related-clause-err : goal.returns-in_err-related-clause-err
 returns-in_err-related-clause-err c =
-    let s = c.args.lines.parts in
+    let s = c.args.parts in
     let below : AreLabelsBelow (length s.items) s.declared = search rules in
     let some : 1 ≤ length s.items = search rules in
     let items : c.deref-2.result.now ≡ (loose_of s).items = search rules in
     let entries : c.deref-3.result.now ≡ (loose_of s).entries = search rules in
     let lines : c.relations.result.now ≡ s.declared.relations = search rules in
-    let fault : (c.in_err-related.field-0.0 ≡ error.Memory) ⊎ IsFirstFault (end_stages c.args.lines.count s) c.in_err-related.field-0.0 =
-    relation_reported s c.args.lines.count c.deref-2.result.now c.deref-3.result.now c.relations.result.now c.in_err-related.field-0.0 items
+    let fault : (c.in_err-related.field-0.0 ≡ error.Memory) ⊎ IsFirstFault (end_stages c.args.count s) c.in_err-related.field-0.0 =
+    relation_reported s c.args.count c.deref-2.result.now c.deref-3.result.now c.relations.result.now c.in_err-related.field-0.0 items
     entries lines below some c.in_ok-named.ensures.ok.0 c.in_err-related.ensures.err in
     search (rules, fault)
 
 pub of_parts-requires : goal.of_parts-requires
 of_parts-requires c =
-    let s = c.args.lines.parts in
+    let s = c.args.parts in
     let below : AreLabelsBelow (length s.items) s.declared = search rules in
     let some : 1 ≤ length s.items = search rules in
     let items : c.deref-2.result.now ≡ (loose_of s).items = search rules in

@@ -14,10 +14,10 @@ use Rattle.loose_text.proofs.parts.LooseParts.slot.Goals as goal
 
 pub returns-in_default-clause-err : goal.returns-in_default-clause-err
 returns-in_default-clause-err c =
-    let narrow : IsTrue c.args.draft.bare → IsNarrow c.args.draft.insn.op = search rules in
+    let narrow : IsTrue c.args.draft.now.bare → IsNarrow c.args.draft.now.insn.op = search rules in
     let stands : IsIn section.Text c.self.inside.declared = search rules in
     let items = items_of c.self.inside.items.items in
-    let item : Item = item_of c.self.inside.fresh c.args.n c.args.draft c.args.stop in
+    let item : Item = item_of c.self.inside.fresh c.args.n c.args.draft.now c.args.stop in
     let full : ¬ (length (plain_of (items ++ item ∷ [])) ≤ BUNDLE_LIMIT) =
     rw c.insn_of.ensures at c.in_default.ensures items c.self.invariant in
     rw (sym c.self.view_is) (inr (
@@ -28,22 +28,22 @@ returns-in_default-clause-err c =
 
 -- The instructions with the one of this line.
 lines : (c : goal.After-self-2-1) → c.push.new.self.items ≡ c.self.inside.items.items
-    ++ record { item = item_of c.self.inside.fresh c.args.n c.args.draft c.args.stop; target = c.args.draft.target } ∷ []
-lines c = rw c.insn_of.ensures at c.in_ok-push.ensures.items
+    ++ record { item = item_of c.self.inside.fresh c.args.n c.args.draft.now c.args.stop; target = c.args.draft.now.target } ∷ []
+lines c = rw (c.insn_of.ensures, c.take.ensures.value) at c.in_ok-push.ensures.items
 
 pub invariant_of-self-2 : goal.invariant_of-self-2
 invariant_of-self-2 c =
-    let item : Item = item_of c.self.inside.fresh c.args.n c.args.draft c.args.stop in
-    let line : ItemLine = record { item = item; target = c.args.draft.target } in
+    let item : Item = item_of c.self.inside.fresh c.args.n c.args.draft.now c.args.stop in
+    let line : ItemLine = record { item = item; target = c.args.draft.now.target } in
     let packed = (rw c.insn_of.ensures at c.in-Some.ensures (items_of c.self.inside.items.items) c.self.invariant).1 in
     rw (lines c, items_with c.self.inside.items.items line) packed
 
 pub returns-clause-ok : goal.returns-clause-ok
 returns-clause-ok c =
-    let narrow : IsTrue c.args.draft.bare → IsNarrow c.args.draft.insn.op = search rules in
+    let narrow : IsTrue c.args.draft.now.bare → IsNarrow c.args.draft.now.insn.op = search rules in
     let stands : IsIn section.Text c.self.inside.declared = search rules in
     let items = items_of c.self.inside.items.items in
-    let item : Item = item_of c.self.inside.fresh c.args.n c.args.draft c.args.stop in
+    let item : Item = item_of c.self.inside.fresh c.args.n c.args.draft.now c.args.stop in
     let room : length (plain_of (items ++ item ∷ [])) ≤ BUNDLE_LIMIT =
     (rw c.insn_of.ensures at c.in-Some.ensures items c.self.invariant).0 in
     rw (sym c.self.view_is) (
