@@ -29,7 +29,7 @@ use Rattle.asm_reading.specs.declared.line.Line.TheVariants as line
 use Rattle.asm_reading.specs.declared.line.TemplateName.{TemplateName}
 use Rattle.ia_insn.specs.declared.insn.Op.{Op}
 use Rattle.asm_forms.specs.Items.{taken}
-use Rattle.asm_reading.specs.Lines.{KindAndText, ◌>>=◌, or_fault, tokens, texts, name_of, label_name, lead_at, ends_in_stop, without_stop, predicate_of, draft_of, completers_or_none, slot_under, slot_of, data_field, agreed_data, numbers_of, data_fault, data_of, named, directive_value, directive_of, alone, formed, line_by_forms, marked, template_name_of, opened_as, opened, mark_led, line_led_by, led_at, line_without_label, is_name_lexeme, is_colon, label_of, line_of, reading_of, relation_of}
+use Rattle.asm_reading.specs.Lines.{KindAndText, ◌>>=◌, or_fault, tokens, texts, name_of, label_name, lead_at, ends_in_stop, without_stop, predicate_of, draft_of, completers_or_none, slot_under, slot_of, data_field, agreed_data, numbers_of, data_fault, data_of, named, directive_value, directive_of, alone, formed, line_by_forms, lone_mark, template_name_of, opened_as, opening_brace, mark_led, line_led_by, led_at, line_without_label, is_name_lexeme, is_colon, label_of, line_of, reading_of, relation_of}
 
 -- The predicates of a relation line.
 abbrev pub NamesRelated : Line → Type 0
@@ -123,7 +123,7 @@ worded_relates : (forms : List Form) (name : List ℕ) (before after : List Kind
 worded_relates [] name before after = tt
 worded_relates (f ∷ fs) name before after = formed_relates f (f ∷ fs) name before after
 
-marked_relates : (value : Line) (before after : List KindAndText) → NamesRelated value → Relates (marked value before after)
+marked_relates : (value : Line) (before after : List KindAndText) → NamesRelated value → Relates (lone_mark value before after)
 marked_relates value [] [] h = h
 marked_relates value [] (w ∷ after) h = tt
 marked_relates value (b ∷ before) after h = tt
@@ -132,7 +132,7 @@ template_name_relates : (o : Option TemplateName) (before after : List KindAndTe
 template_name_relates None before after = tt
 template_name_relates (Some s) before after = marked_relates (line.Open s) before after tt
 
-opened_relates : (before after : List KindAndText) → Relates (opened before after)
+opened_relates : (before after : List KindAndText) → Relates (opening_brace before after)
 opened_relates before [] = tt
 opened_relates before (w ∷ after) = template_name_relates (template_name_of w.1) before after
 
