@@ -1,5 +1,6 @@
 -- The stated output, where a source tells its bytes.
 use Rattle.std.proofs.Common.{◌≡◌, inl, inr, ℕ, ◌+◌, ◌<◌, ◌≤◌, List, [], length, length-drop, take, drop, Option, Some, None, refl, sym, ap, ◌∙◌, subst, arith}
+use Rattle.std.proofs.lemmas.Option.{IfSome_then}
 use Rattle.std.specs.Prelude.{◌↔◌, IfSome, MatchBool}
 use Rattle.std.specs.Io.KnownBytes.{Appends}
 use Rattle.std.proofs.KnownBytes.{Appends-nil}
@@ -13,18 +14,17 @@ use Rattle.ia64_top.specs.declared.status.Status.{Status}
 use Rattle.ia64_top.specs.declared.status.Status.TheVariants.{Words, Done, Violated, Refused, TooLong, Limit, Faulted}
 use Rattle.ia64_top.specs.Arguments.{command_of, Judges, groups_of, IsTrial, IsWatch}
 use Rattle.ia64_top.specs.Inputs.{IsReadOf}
-use Rattle.ia64_top.specs.Watching.{RanNothing, IsNotRun, HaveWatched, HaveWatchedPart}
 use Rattle.watch_seam.specs.Watchers.{WatchState}
 use Rattle.watch_seam.specs.Watching.{staying}
 use Rattle.ia_program.specs.Programs.{Program}
-use Rattle.image_form.specs.Images.{Spells, BeginsAsImage}
+use Rattle.image_form.specs.Images.{Spells}
 use Rattle.image_form.specs.Laws.{ImageSize}
 use Rattle.order_laws.specs.Violations.{HasNoViolation}
-use Rattle.ia64_top.specs.Runs.{Printing, run_of, end_status, watch_text}
+use Rattle.ia64_top.specs.Runs.{Printing, run_of, end_status, watch_text, RanNothing, IsNotRun, HaveWatched, HaveWatchedPart, IsRunAs}
 use Rattle.ia64_top.specs.Readings.{as_either}
-use Rattle.ia64_top.specs.Output.{is_too_long, IsSilent, IsRunAs, IsCommandOutput, IsOutput, GivesOutput, GivesPart}
+use Rattle.ia64_top.specs.Output.{IsWithinLimit, IfRead, is_too_long, IsSilent, IsCommandOutput, IsOutput, GivesOutput, GivesPart}
 
--- arguments are one command.
+-- The arguments are one command at most.
 pub same_command : (arguments : List (List ℕ)) (c d : Command) → command_of arguments ≡ Some c → command_of arguments ≡ Some d → c ≡ d
 same_command arguments c d e f = let same : Some c ≡ Some d = sym e ∙ f in cc
 
@@ -55,10 +55,10 @@ output_beyond arguments command ws input e reads beyond = rw e (beyond_within co
 pub too_long : (arguments : List (List ℕ)) (command : Command) (ws : List WatchState) (left given : Option (List ℕ))
     → command_of arguments ≡ Some command → ¬ IsTrial (Some command) → IfSome left (λ l. INPUT_LIMIT < length l)
     → IfSome left (λ input. GivesOutput arguments ws input given given TooLong)
-too_long arguments command ws None given e reads h = tt
-too_long arguments command ws (Some input) given e reads h = ([], output_beyond arguments command ws input e reads h, Appends-nil given)
+too_long arguments command ws left given e reads h =
+    IfSome_then left h (λ input h. ([], output_beyond arguments command ws input e reads h, Appends-nil given))
 
--- arguments that are no command write nothing.
+-- Where the arguments are no command nothing is written.
 pub no_command : (arguments : List (List ℕ)) (ws : List WatchState) (left given : Option (List ℕ)) → command_of arguments ≡ None
     → IfSome left (λ input. GivesOutput arguments ws input given given Words)
 no_command arguments ws None given e = tt
@@ -68,74 +68,64 @@ pub answered : (arguments : List (List ℕ)) (command : Command) (ws : List Watc
     (input bytes : List ℕ) (status : Status) → command_of arguments ≡ Some command → IfSome left (IsReadOf command input)
     → length input ≤ INPUT_LIMIT → IsCommandOutput command ws input bytes status → Appends given new bytes
     → IfSome left (λ i. GivesOutput arguments ws i given new status)
-answered arguments command ws None given new input bytes status e whole within o appended = tt
-answered arguments command ws (Some l) given new input bytes status e whole within o appended =
-    (bytes, output_of arguments command ws l input bytes status e whole within o, appended)
+answered arguments command ws left given new input bytes status e whole within o appended =
+    IfSome_then left whole (λ l whole. (bytes, output_of arguments command ws l input bytes status e whole within o, appended))
 
 pub given_in_part : (arguments : List (List ℕ)) (command : Command) (ws : List WatchState) (left given new : Option (List ℕ))
     (input bytes : List ℕ) (status : Status) → command_of arguments ≡ Some command → IfSome left (IsReadOf command input)
     → length input ≤ INPUT_LIMIT → IsCommandOutput command ws input bytes status
     → ((count : ℕ) × (count < length bytes) × Appends given new (take count bytes)) → IfSome left (λ i. GivesPart arguments ws i given new)
-given_in_part arguments command ws None given new input bytes status e whole within o part = tt
-given_in_part arguments command ws (Some l) given new input bytes status e whole within o part =
-    (bytes, status, output_of arguments command ws l input bytes status e whole within o, part)
+given_in_part arguments command ws left given new input bytes status e whole within o part =
+    IfSome_then left whole (λ l whole. (bytes, status, output_of arguments command ws l input bytes status e whole within o, part))
 
 -- A slice of what was read is what was read.
 pub same_read : (command : Command) (left : Option (List ℕ)) (slice input : List ℕ) → slice ≡ input → IfSome left (IsReadOf command input)
     → IfSome left (IsReadOf command slice)
 same_read command left slice input e whole = subst (λ i. IfSome left (IsReadOf command i)) (sym e) whole
 
--- What is said of the program that an input is read as: a text has to be within the limit, and an image is.
-abbrev OfProgram : (Program → Type 0) → List ℕ → Type 0
-OfProgram P input = (¬ BeginsAsImage input → length input ≤ INPUT_LIMIT) → (p : Program) → as_either.Gives input p → P p
-
 short_image : ImageSize → (p : Program) (input : List ℕ) → Spells p input → length input ≤ INPUT_LIMIT
 short_image size p input s =
     let n = size p input s in let r = s.1.program.counts in omega (arith, n, r.bundles, r.entries, r.bytes, r.relations)
 
-short_either : ImageSize → (p : Program) (input : List ℕ) → (¬ BeginsAsImage input → length input ≤ INPUT_LIMIT) → as_either.Gives input p
-    → length input ≤ INPUT_LIMIT
+short_either : ImageSize → (p : Program) (input : List ℕ) → IsWithinLimit input → as_either.Gives input p → length input ≤ INPUT_LIMIT
 short_either size p input within (inl image) = short_image size p input image.1
 short_either size p input within (inr text) = within text.0
 
 -- A longer input is read as no program.
-none_beyond : ImageSize → (P : Program → Type 0) (input : List ℕ) → INPUT_LIMIT < length input → OfProgram P input
+none_beyond : ImageSize → (P : Program → Type 0) (input : List ℕ) → INPUT_LIMIT < length input → IfRead input P
 none_beyond size P input h within p g = absurd (omega (arith, h, short_either size p input within g))
 
 -- What is said of the input that was read whole.
-of_whole : (P : Program → Type 0) (l input : List ℕ) → input ≡ l → ((p : Program) → as_either.Gives input p → P p) → OfProgram P l
+of_whole : (P : Program → Type 0) (l input : List ℕ) → input ≡ l → ((p : Program) → as_either.Gives input p → P p) → IfRead l P
 of_whole P l input whole h within p g = h p (subst (λ i. as_either.Gives i p) (sym whole) g)
 
 -- What is accepted.
 abbrev AcceptsFree : List (List ℕ) → Status → List ℕ → Type 0
-AcceptsFree arguments status input = command_of arguments ≡ Some Check → OfProgram (λ p. (status ≡ Done) ↔ HasNoViolation p) input
+AcceptsFree arguments status input = command_of arguments ≡ Some Check → IfRead input (λ p. (status ≡ Done) ↔ HasNoViolation p)
 
 pub accepted_beyond : ImageSize → (arguments : List (List ℕ)) (left : Option (List ℕ)) → IfSome left (λ l. INPUT_LIMIT < length l)
     → IfSome left (AcceptsFree arguments TooLong)
-accepted_beyond size arguments None h = tt
-accepted_beyond size arguments (Some input) h = λ e. none_beyond size (λ p. (TooLong ≡ Done) ↔ HasNoViolation p) input h
+accepted_beyond size arguments left h =
+    IfSome_then left h (λ input h e. none_beyond size (λ p. (TooLong ≡ Done) ↔ HasNoViolation p) input h)
 
 pub accepted_within : (arguments : List (List ℕ)) (command : Command) (left : Option (List ℕ)) (input : List ℕ) (status : Status)
     → command_of arguments ≡ Some command → IfSome left (IsReadOf command input)
     → (command ≡ Check → (p : Program) → as_either.Gives input p → ((status ≡ Done) ↔ HasNoViolation p))
     → IfSome left (AcceptsFree arguments status)
-accepted_within arguments command None input status e whole h = tt
-accepted_within arguments command (Some l) input status e whole h =
-    λ f. let is =
-    same_command arguments command Check e f in of_whole (λ p. (status ≡ Done) ↔ HasNoViolation p) l input
-    (subst (λ k. IsReadOf k input l) is whole) (h is)
+accepted_within arguments command left input status e whole h =
+    IfSome_then left whole (λ l whole f. let is = same_command arguments command Check e f in
+    of_whole (λ p. (status ≡ Done) ↔ HasNoViolation p) l input (subst (λ k. IsReadOf k input l) is whole) (h is))
 
 -- What has violations.
 abbrev JudgesProgram : List (List ℕ) → Status → List ℕ → Type 0
 JudgesProgram arguments status input =
     (command : Command) → command_of arguments ≡ Some command → Judges command
-    → OfProgram (λ p. (status ≡ Violated) ↔ (¬ HasNoViolation p)) input
+    → IfRead input (λ p. (status ≡ Violated) ↔ (¬ HasNoViolation p))
 
 pub judged_beyond : ImageSize → (arguments : List (List ℕ)) (left : Option (List ℕ)) → IfSome left (λ l. INPUT_LIMIT < length l)
     → IfSome left (JudgesProgram arguments TooLong)
-judged_beyond size arguments None h = tt
-judged_beyond size arguments (Some input) h =
-    λ command e judges. none_beyond size (λ p. (TooLong ≡ Violated) ↔ (¬ HasNoViolation p)) input h
+judged_beyond size arguments left h =
+    IfSome_then left h (λ input h command e judges. none_beyond size (λ p. (TooLong ≡ Violated) ↔ (¬ HasNoViolation p)) input h)
 
 -- What is judged is read whole.
 judged_whole : (command : Command) (input l : List ℕ) → Judges command → IsReadOf command input l → input ≡ l
@@ -149,23 +139,22 @@ pub judged_within : (arguments : List (List ℕ)) (command : Command) (left : Op
     → command_of arguments ≡ Some command → IfSome left (IsReadOf command input)
     → (Judges command → (p : Program) → as_either.Gives input p → ((status ≡ Violated) ↔ (¬ HasNoViolation p)))
     → IfSome left (JudgesProgram arguments status)
-judged_within arguments command None input status e whole h = tt
-judged_within arguments command (Some l) input status e whole h =
-    λ other f judges.
+judged_within arguments command left input status e whole h =
+    IfSome_then left whole (λ l whole other f judges.
     let mine : Judges command = subst Judges (same_command arguments other command f e) judges in
-    of_whole (λ p. (status ≡ Violated) ↔ (¬ HasNoViolation p)) l input (judged_whole command input l mine whole) (h mine)
+    of_whole (λ p. (status ≡ Violated) ↔ (¬ HasNoViolation p)) l input (judged_whole command input l mine whole) (h mine))
 
 -- What is run: the end of the run tells the status.
 abbrev TellsEnd : List (List ℕ) → Status → List ℕ → Type 0
 TellsEnd arguments status input =
     (command : Command) (groups : ℕ) → command_of arguments ≡ Some command → groups_of command ≡ Some groups
-    → OfProgram (λ p. HasNoViolation p → status ≡ end_status (run_of p groups).end) input
+    → IfRead input (λ p. HasNoViolation p → status ≡ end_status (run_of p groups).end)
 
 pub ended_beyond : ImageSize → (arguments : List (List ℕ)) (left : Option (List ℕ)) → IfSome left (λ l. INPUT_LIMIT < length l)
     → IfSome left (TellsEnd arguments TooLong)
-ended_beyond size arguments None h = tt
-ended_beyond size arguments (Some input) h =
-    λ command groups e runs. none_beyond size (λ p. HasNoViolation p → TooLong ≡ end_status (run_of p groups).end) input h
+ended_beyond size arguments left h =
+    IfSome_then left h (λ input h command groups e runs. none_beyond size
+    (λ p. HasNoViolation p → TooLong ≡ end_status (run_of p groups).end) input h)
 
 -- What is run is read whole.
 pub run_whole : (command : Command) (groups : ℕ) (input l : List ℕ) → groups_of command ≡ Some groups → IsReadOf command input l → input ≡ l
@@ -178,67 +167,61 @@ pub ended_within : (arguments : List (List ℕ)) (command : Command) (left : Opt
     → command_of arguments ≡ Some command → IfSome left (IsReadOf command input)
     → ((groups : ℕ) → groups_of command ≡ Some groups → (p : Program) → as_either.Gives input p → HasNoViolation p
     → status ≡ end_status (run_of p groups).end) → IfSome left (TellsEnd arguments status)
-ended_within arguments command None input status e whole h = tt
-ended_within arguments command (Some l) input status e whole h =
-    λ other groups f runs.
+ended_within arguments command left input status e whole h =
+    IfSome_then left whole (λ l whole other groups f runs.
     let mine : groups_of command ≡ Some groups = subst (λ k. groups_of k ≡ Some groups) (same_command arguments other command f e) runs in
     of_whole (λ p. HasNoViolation p → status ≡ end_status (run_of p groups).end) l input (run_whole command groups input l mine whole)
-    (h groups mine)
+    (h groups mine))
 
 -- What the watchers of `watch` have seen.
 abbrev WatchesProgram : List (List ℕ) → (old now : List WatchState) → List ℕ → Type 0
 WatchesProgram arguments old now input =
-    (groups : ℕ) → command_of arguments ≡ Some (Watch groups) → OfProgram
-    (λ p. HasNoViolation p → now ≡ staying (run_of p groups).events old) input
+    (groups : ℕ) → command_of arguments ≡ Some (Watch groups) → IfRead input
+    (λ p. HasNoViolation p → now ≡ staying (run_of p groups).events old)
 
 pub watched_beyond : ImageSize → (arguments : List (List ℕ)) (left : Option (List ℕ)) (old now : List WatchState)
     → IfSome left (λ l. INPUT_LIMIT < length l) → IfSome left (WatchesProgram arguments old now)
-watched_beyond size arguments None old now h = tt
-watched_beyond size arguments (Some input) old now h =
-    λ groups e. none_beyond size (λ p. HasNoViolation p → now ≡ staying (run_of p groups).events old) input h
+watched_beyond size arguments left old now h =
+    IfSome_then left h (λ input h groups e. none_beyond size (λ p. HasNoViolation p → now ≡ staying (run_of p groups).events old) input h)
 
 pub watched_within : (arguments : List (List ℕ)) (command : Command) (left : Option (List ℕ)) (old now : List WatchState) (input : List ℕ)
     → command_of arguments ≡ Some command → IfSome left (IsReadOf command input)
     → ((groups : ℕ) → command ≡ Watch groups → HaveWatched groups input old now) → IfSome left (WatchesProgram arguments old now)
-watched_within arguments command None old now input e whole h = tt
-watched_within arguments command (Some l) old now input e whole h =
-    λ groups f.
+watched_within arguments command left old now input e whole h =
+    IfSome_then left whole (λ l whole groups f.
     let is = same_command arguments command (Watch groups) e f in
     of_whole (λ p. HasNoViolation p → now ≡ staying (run_of p groups).events old) l input (subst (λ k. IsReadOf k input l) is whole)
-    (h groups is)
+    (h groups is))
 
 pub cut_within : (arguments : List (List ℕ)) (command : Command) (left : Option (List ℕ)) (old now : List WatchState) (input : List ℕ)
     → command_of arguments ≡ Some command → IfSome left (IsReadOf command input)
     → ((groups : ℕ) → command ≡ Watch groups → HaveWatchedPart groups input old now)
     → IfSome left (λ l. (groups : ℕ) → command_of arguments ≡ Some (Watch groups) → HaveWatchedPart groups l old now)
-cut_within arguments command None old now input e whole h = tt
-cut_within arguments command (Some l) old now input e whole h =
-    λ groups f.
+cut_within arguments command left old now input e whole h =
+    IfSome_then left whole (λ l whole groups f.
     let is = same_command arguments command (Watch groups) e f in
     let read : input ≡ l = subst (λ k. IsReadOf k input l) is whole in
-    subst (λ i. HaveWatchedPart groups i old now) read (h groups is)
+    subst (λ i. HaveWatchedPart groups i old now) read (h groups is))
 
 -- What is told of the program that `groups` reads.
 abbrev pub TellsOfGroups : List (List ℕ) → (ℕ → ℕ → Program → Type 0) → List ℕ → Type 0
 TellsOfGroups arguments Tells input =
-    (groups number : ℕ) → command_of arguments ≡ Some (Groups groups number) → OfProgram (Tells groups number) input
+    (groups number : ℕ) → command_of arguments ≡ Some (Groups groups number) → IfRead input (Tells groups number)
 
 pub groups_beyond : ImageSize → (arguments : List (List ℕ)) (Tells : List ℕ → ℕ → ℕ → Program → Type 0) (left : Option (List ℕ))
     → IfSome left (λ l. INPUT_LIMIT < length l) → IfSome left (λ l. TellsOfGroups arguments (Tells l) l)
-groups_beyond size arguments Tells None h = tt
-groups_beyond size arguments Tells (Some l) h = λ groups number e. none_beyond size (Tells l groups number) l h
+groups_beyond size arguments Tells left h = IfSome_then left h (λ l h groups number e. none_beyond size (Tells l groups number) l h)
 
 pub groups_within : (arguments : List (List ℕ)) (command : Command) (Tells : List ℕ → ℕ → ℕ → Program → Type 0) (left : Option (List ℕ))
     (input : List ℕ) → command_of arguments ≡ Some command → IfSome left (IsReadOf command input)
     → ((groups number : ℕ) → command ≡ Groups groups number → (p : Program) → as_either.Gives input p → Tells input groups number p)
     → IfSome left (λ l. TellsOfGroups arguments (Tells l) l)
-groups_within arguments command Tells None input e whole h = tt
-groups_within arguments command Tells (Some l) input e whole h =
-    λ groups number f.
+groups_within arguments command Tells left input e whole h =
+    IfSome_then left whole (λ l whole groups number f.
     let is = same_command arguments command (Groups groups number) e f in
     let read : input ≡ l = subst (λ k. IsReadOf k input l) is whole in
     of_whole (Tells l groups number) l input read (subst (λ i. (p : Program) → as_either.Gives input p → Tells i groups number p) read
-    (h groups number is))
+    (h groups number is)))
 
 -- Where no accepted program was read nothing was run.
 ran_nothing : (text : Printing) (groups : ℕ) (input bytes : List ℕ) (status : Status) → IsRunAs text groups as_either input bytes status
@@ -263,8 +246,7 @@ not_run_within command (Some l) ws old now input bytes status whole o other not_
 -- More bytes than the limit were there where more were taken.
 pub beyond : (P : Type 0) (left new : Option (List ℕ)) → P → IfSome left (λ l. P ↔ LosesFirst (INPUT_LIMIT + 1) l new)
     → IfSome left (λ l. INPUT_LIMIT < length l)
-beyond P None new p h = tt
-beyond P (Some l) new p h = let t = (h.0 p).0 in omega arith
+beyond P left new p h = IfSome_then left h (λ l h. let t = (h.0 p).0 in omega arith)
 
 -- A source that is as it was lost no byte.
 pub untouched : (P : Type 0) (left : Option (List ℕ)) → ¬ P → IfSome left (λ l. P ↔ LosesFirst (INPUT_LIMIT + 1) l left)
@@ -293,8 +275,9 @@ not_too_long (Trial seed bundles) ws input bytes o = o
 pub read_whole : (P : Type 0) (command : Command) (ws : List WatchState) (left new : Option (List ℕ)) (input bytes : List ℕ)
     (status : Status) → ¬ P → IfSome left (λ l. P ↔ LosesFirst (INPUT_LIMIT + 1) l new) → IsCommandOutput command ws input bytes status
     → IfSome left (λ l. (status ≡ TooLong) ↔ LosesFirst (INPUT_LIMIT + 1) l new)
-read_whole P command ws None new input bytes status whole loses o = tt
-read_whole P command ws (Some l) new input bytes status whole loses o = (
-  λ e. absurd (not_too_long command ws input bytes (subst (IsCommandOutput command ws input bytes) e o)),
-  λ gone. absurd (whole (loses.1 gone)),
-)
+read_whole P command ws left new input bytes status whole loses o =
+    IfSome_then left loses (λ l loses. (
+      λ e. absurd (not_too_long command ws input bytes
+          (subst (IsCommandOutput command ws input bytes) e o)),
+      λ gone. absurd (whole (loses.1 gone)),
+    ))

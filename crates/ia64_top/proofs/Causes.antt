@@ -1,5 +1,6 @@
 -- Why an input is refused, what else is answered, and what is printed of violations.
-use Rattle.std.proofs.Common.{◌≡◌, inl, inr, ℕ, ◌<◌, List, length, Option, Some, None, refl, sym, subst}
+use Rattle.std.proofs.Common.{◌≡◌, inl, inr, ℕ, ◌<◌, List, length, Option, Some, refl, sym, subst}
+use Rattle.std.proofs.lemmas.Option.{IfSome_then}
 use Rattle.std.specs.Prelude.{◌↔◌, ◌⊎◌, ◌+◌, IfSome, false}
 use Rattle.std.specs.Io.KnownBytes.{Appends}
 use Rattle.std.proofs.lemmas.Bool.{lt-ltb}
@@ -24,11 +25,12 @@ use Rattle.ia64_top.specs.Arguments.{command_of, IsTrial}
 use Rattle.ia64_top.specs.Statuses.{TellsOfProgram}
 use Rattle.ia64_top.specs.Inputs.{IsReadOf}
 use Rattle.ia64_top.specs.Texts.{verdict_text}
-use Rattle.ia64_top.specs.Judgements.{verdict_status, IsJudgement, PrintsClashes}
-use Rattle.ia64_top.specs.Runs.{Printing, state_after, watch_text, trace_text}
+use Rattle.ia64_top.specs.Judgements.{verdict_status, IsJudgement, PrintsClashes, IsCheckedAs}
+use Rattle.ia64_top.specs.Runs.{Printing, state_after, watch_text, trace_text, IsRunAs, IsNumberedRunAs}
 use Rattle.ia64_top.specs.Trials.{IsTrialOutput}
 use Rattle.ia64_top.specs.Readings.{InputReading, as_image, as_bundles, as_text, as_loose, as_either}
-use Rattle.ia64_top.specs.Output.{IsCanonical, IsPackedText, IsMadeOutput, IsCheckedAs, IsRunAs, IsNumberedRunAs, IsCommandOutput, IsProgramOf, IsUnreadable, is_too_long, GivesClashes}
+use Rattle.ia64_top.specs.Output.{IsCanonical, IsMadeOutput, IsCommandOutput, IsProgramOf, IsUnreadable, is_too_long, GivesClashes}
+use Rattle.ia64_top.specs.Stops.{IsPackedText}
 use Rattle.ia64_top.proofs.Outputs.{GivesOne, RefusesNone, image_refuses_none, bundles_refuse_none, text_refuses_none, loose_refuses_none, either_refuses_none}
 use Rattle.ia64_top.proofs.Answering.{same_command}
 
@@ -124,23 +126,20 @@ pub cause_within : NoFaultWhereSpelled → NoFaultWhereRaw → NoFaultWhereRead 
     → (arguments : List (List ℕ)) (c : Command) (ws : List WatchState) (left : Option (List ℕ)) (input bytes : List ℕ) (status : Status)
     → command_of arguments ≡ Some c → IfSome left (IsReadOf c input) → IsCommandOutput c ws input bytes status
     → IfSome left (λ l. (d : Command) → command_of arguments ≡ Some d → HasCause (λ p. IsProgramOf d l p) status)
-cause_within spelled raw read placed arguments c ws None input bytes status e whole o = tt
-cause_within spelled raw read placed arguments c ws (Some l) input bytes status e whole o =
-    λ d f. subst (λ k. HasCause (λ p. IsProgramOf k l p) status) (same_command arguments c d e f)
-    (of_all c input l status whole (cause spelled raw read placed c ws input bytes status o))
+cause_within spelled raw read placed arguments c ws left input bytes status e whole o =
+    IfSome_then left whole (λ l whole d f. subst (λ k. HasCause (λ p. IsProgramOf k l p) status) (same_command arguments c d e f)
+    (of_all c input l status whole (cause spelled raw read placed c ws input bytes status o)))
 
 pub refused_within : (arguments : List (List ℕ)) (left : Option (List ℕ)) (status : Status)
     → IfSome left (λ l. (d : Command) → command_of arguments ≡ Some d → HasCause (λ p. IsProgramOf d l p) status)
     → IfSome left (λ l. (d : Command) → command_of arguments ≡ Some d → is_too_long d l ≡ false → ((status ≡ Refused) ↔ IsUnreadable d l))
-refused_within arguments None status h = tt
-refused_within arguments (Some l) status h = λ d f short. (h d f).refused
+refused_within arguments left status h = IfSome_then left h (λ l h d f short. (h d f).refused)
 
 pub served_within : (arguments : List (List ℕ)) (left : Option (List ℕ)) (status : Status)
     → IfSome left (λ l. (d : Command) → command_of arguments ≡ Some d → HasCause (λ p. IsProgramOf d l p) status)
     → IfSome left (λ l. (d : Command) → command_of arguments ≡ Some d → is_too_long d l ≡ false → (p : Program) → IsProgramOf d l p
     → TellsOfProgram status ⊎ (status ≡ NoMemory))
-served_within arguments None status h = tt
-served_within arguments (Some l) status h = λ d f short p g. inl ((h d f).served p g)
+served_within arguments left status h = IfSome_then left h (λ l h d f short p g. inl ((h d f).served p g))
 
 -- Of an input that is too long nothing is told, nor of one whose arguments are no command.
 long_enough : (d : Command) (input : List ℕ) → ¬ IsTrial (Some d) → INPUT_LIMIT < length input → is_too_long d input ≡ false → ⊥
@@ -150,9 +149,9 @@ long_enough d input other beyond short = let long = rw (lt-ltb INPUT_LIMIT (leng
 pub none_beyond : (P : Command → List ℕ → Type 0) (arguments : List (List ℕ)) (c : Command) (left : Option (List ℕ))
     → command_of arguments ≡ Some c → ¬ IsTrial (Some c) → IfSome left (λ l. INPUT_LIMIT < length l)
     → IfSome left (λ l. (d : Command) → command_of arguments ≡ Some d → is_too_long d l ≡ false → P d l)
-none_beyond P arguments c None e other beyond = tt
-none_beyond P arguments c (Some l) e other beyond =
-    λ d f short. absurd (long_enough d l (subst (λ k. ¬ IsTrial (Some k)) (same_command arguments c d e f) other) beyond short)
+none_beyond P arguments c left e other beyond =
+    IfSome_then left beyond (λ l beyond d f short. absurd (long_enough d l
+    (subst (λ k. ¬ IsTrial (Some k)) (same_command arguments c d e f) other) beyond short))
 
 -- A verdict with violations prints clashes alone.
 prints : (p : Program) (bytes : List ℕ) (v : Verdict) → IsVerdict p v → bytes ≡ verdict_text v → Violated ≡ verdict_status v
@@ -185,8 +184,7 @@ pub clashes_within : GivesOne as_either → (arguments : List (List ℕ)) (c : C
     → IsCommandOutput c ws input bytes status → Appends old new bytes
     → status ≡ Violated → IfSome left (λ l. (d : Command) → command_of arguments ≡ Some d → (p : Program) → IsProgramOf d l p
     → GivesClashes p old new)
-clashes_within one arguments c ws None old new input bytes status e whole o appended is = tt
-clashes_within one arguments c ws (Some l) old new input bytes status e whole o appended is =
-    λ d f p g.
+clashes_within one arguments c ws left old new input bytes status e whole o appended is =
+    IfSome_then left whole (λ l whole d f p g.
     let mine : IsProgramOf c l p = subst (λ k. IsProgramOf k l p) (same_command arguments d c f e) g in
-    (bytes, clashes_of one c ws input bytes status is o p (of_read c input l p whole mine), appended)
+    (bytes, clashes_of one c ws input bytes status is o p (of_read c input l p whole mine), appended))

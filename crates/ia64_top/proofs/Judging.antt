@@ -10,10 +10,9 @@ use Rattle.group_checker.specs.Reports.{IsReport, IsVerdict}
 use Rattle.group_checker.specs.Shown.{Report}
 use Rattle.ia64_top.specs.declared.status.Status.{Status}
 use Rattle.ia64_top.specs.declared.status.Status.TheVariants.{Done, Violated, Refused}
-use Rattle.ia64_top.specs.Judgements.{verdict_status, IsJudgement}
+use Rattle.ia64_top.specs.Judgements.{verdict_status, IsJudgement, IsCheckedAs}
 use Rattle.ia64_top.specs.Texts.{verdict_text}
 use Rattle.ia64_top.specs.Readings.{InputReading}
-use Rattle.ia64_top.specs.Output.{IsCheckedAs}
 use Rattle.ia64_top.proofs.Outputs.{GivesOne, RefusesNone, IsTold, holds_where_told}
 
 some_of : (all : List Violation) → 1 ≤ length all → (v : Violation) × Contains all v
@@ -33,11 +32,17 @@ violated_of_verdict : (p : Program) (v : Verdict) → IsVerdict p v → ((verdic
 violated_of_verdict p (Accepted q) exact = (λ e. cc, λ n. absurd (n exact.1))
 violated_of_verdict p (Violations r) exact = (λ e. not_free p r exact, λ n. refl)
 
--- A verdict as it is printed and answered.
-pub judgement_of : (p : Program) (v : Verdict) (bytes : List ℕ) (status : Status) → IsProgram p → IsVerdict p v
-    → (bytes ≡ verdict_text v) × (status ≡ verdict_status v) → IsJudgement p bytes status
-judgement_of p v bytes status program exact told =
-    record { program = program; verdict = v; exact = exact; printed = told.0; tells = told.1 }
+-- The verdict on a program that is accepted, as it is printed and answered.
+pub accepted_judgement : (p q : Program) (bytes : List ℕ) → q ≡ p → IsProgram q → HasNoViolation q → bytes ≡ verdict_text (Accepted q)
+    → IsJudgement p bytes Done
+accepted_judgement p q bytes is program free printed =
+    record {
+      program = subst IsProgram is program;
+      verdict = Accepted q;
+      exact = (is, subst HasNoViolation is free);
+      printed = printed;
+      tells = refl;
+    }
 
 pub done_of_judgement : (p : Program) (bytes : List ℕ) (status : Status) → IsJudgement p bytes status → ((status ≡ Done) ↔ HasNoViolation p)
 done_of_judgement p bytes status j = subst (λ s. (s ≡ Done) ↔ HasNoViolation p) (sym j.tells) (done_of_verdict p j.verdict j.exact)
@@ -55,7 +60,7 @@ told_of_check r input bytes Violated o = inl o
 told_of_check r input bytes Refused o = inr (o, refl)
 told_of_check r input bytes status o = absurd o
 
--- `Done` is the answer exactly where the program is free, and `Violated` where it isn't
+-- `Done` is the answer exactly where the program has no violation, and `Violated` exactly where it has one.
 pub done_where_free : (r : InputReading) → GivesOne r → RefusesNone r → (input bytes : List ℕ) (status : Status)
     → IsCheckedAs r input bytes status
     → (p : Program) → r.Gives input p → ((status ≡ Done) ↔ HasNoViolation p)

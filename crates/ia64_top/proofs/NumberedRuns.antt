@@ -23,9 +23,9 @@ use Rattle.ia64_top.specs.declared.status.Status.{Status}
 use Rattle.ia64_top.specs.declared.status.Status.TheVariants.{Done, TooLong, Limit, Faulted, Refused}
 use Rattle.ia64_top.specs.Arguments.{command_of, run_arguments}
 use Rattle.ia64_top.specs.Inputs.{IsReadOf}
-use Rattle.ia64_top.specs.Runs.{run_of, numbered_run_of, end_status, state_after, IsRunOf, IsNumberedRunOf}
+use Rattle.ia64_top.specs.Runs.{run_of, numbered_run_of, end_status, state_after, IsRunOf, IsNumberedRunOf, IsNumberedRunAs}
 use Rattle.ia64_top.specs.Readings.{InputReading, as_either}
-use Rattle.ia64_top.specs.Output.{IsNumberedRunAs, IsCommandOutput, GivesOutput}
+use Rattle.ia64_top.specs.Output.{IsCommandOutput, GivesOutput}
 use Rattle.ia64_top.proofs.Numerals.{number_of_numeral}
 use Rattle.ia64_top.proofs.Ranges.{in_range}
 use Rattle.ia64_top.proofs.Outputs.{GivesOne, RefusesNone, IsTold}

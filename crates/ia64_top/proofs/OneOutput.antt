@@ -1,5 +1,6 @@
 -- One output is stated for arguments, watchers and an input.
 use Rattle.std.proofs.Common.{◌≡◌, ℕ, ◌+◌, inl, inr, List, [], ◌∷◌, ◌++◌, Option, None, Some, Bool, true, false, refl, sym, ap, ◌∙◌, subst}
+use Rattle.std.proofs.lemmas.Option.{IfSome_then}
 use Rattle.std.specs.Prelude.{◌+◌, IfSome, MatchOption, MatchBool}
 use Rattle.std.specs.Io.KnownBytes.{Appends}
 use Rattle.ia_program.specs.Bundles.{Bundle}
@@ -20,12 +21,13 @@ use Rattle.ia64_top.specs.declared.arguments.Command.TheVariants as command
 use Rattle.ia64_top.specs.declared.status.Status.{Status}
 use Rattle.ia64_top.specs.declared.status.Status.TheVariants.{Done, Violated, Refused, Words, TooLong}
 use Rattle.ia64_top.specs.Arguments.{command_of}
-use Rattle.ia64_top.specs.Texts.{refusal_text, text_refusal_text, verdict_text, packed_text}
+use Rattle.ia64_top.specs.Texts.{refusal_text, text_refusal_text, verdict_text}
 use Rattle.ia64_top.specs.Readings.{InputReading, as_image, as_bundles, as_text, as_loose, as_either}
 use Rattle.ia64_top.specs.Judgements.{IsJudgement, verdict_status}
-use Rattle.ia64_top.specs.Runs.{Printing, state_after, watch_text, trace_text}
+use Rattle.ia64_top.specs.Runs.{Printing, state_after, watch_text, trace_text, IsRunAs}
 use Rattle.ia64_top.specs.Trials.{IsTrialOutput}
-use Rattle.ia64_top.specs.Output.{IsCanonical, IsPackedText, IsMadeOutput, IsSilent, IsCommandOutput, IsOutput, OneOutput, GivesOutput, is_too_long}
+use Rattle.ia64_top.specs.Output.{IsCanonical, IsMadeOutput, IsSilent, IsCommandOutput, IsOutput, OneOutput, GivesOutput, is_too_long}
+use Rattle.ia64_top.specs.Stops.{packed_text, IsPackedText}
 use Rattle.ia64_top.proofs.Outputs.{GivesOne, RefusesNone, IsTold, either_gives_one, either_refuses_none, image_refuses_none, bundles_refuse_none, text_refuses_none, loose_gives_one, loose_refuses_none}
 use Rattle.ia64_top.proofs.Judging.{violated_of_judgement, told_of_check}
 use Rattle.ia64_top.proofs.Running.{IsRunAnswer, told_of_run}
@@ -194,6 +196,13 @@ are_one program raw_program text_program spelled raw read fault raw_fault text_f
       judged = verdict;
     }
 
+one_run_output : AreOne → (text : Printing) (groups : ℕ) (input mine bytes : List ℕ) (status other : Status)
+    → IsRunAs text groups as_either input mine status → IsRunAs text groups as_either input bytes other
+    → (bytes ≡ mine) × (other ≡ status)
+one_run_output one text groups input mine bytes status other m o =
+    one_told as_either (IsRunAnswer text groups) (one_run one.judged text groups) one.either input mine bytes status other
+    (told_of_run text groups as_either input mine status m) (told_of_run text groups as_either input bytes other o)
+
 one_command_output : AreOne → (c : Command) (ws : List WatchState) (input mine bytes : List ℕ) (status other : Status)
     → IsCommandOutput c ws input mine status → IsCommandOutput c ws input bytes other → (bytes ≡ mine) × (other ≡ status)
 one_command_output one command.Build ws input mine bytes status other m o =
@@ -212,17 +221,11 @@ one_command_output one command.Check ws input mine bytes status other m o =
     one_told as_either IsJudgement (one_judgement one.judged) one.either input mine bytes status other
     (told_of_check as_either input mine status m) (told_of_check as_either input bytes other o)
 one_command_output one (command.Run groups) ws input mine bytes status other m o =
-    one_told as_either (IsRunAnswer state_after groups) (one_run one.judged state_after groups) one.either input mine bytes status other
-    (told_of_run state_after groups as_either input mine status m) (told_of_run state_after groups as_either input bytes other o)
+    one_run_output one state_after groups input mine bytes status other m o
 one_command_output one (command.Watch groups) ws input mine bytes status other m o =
-    one_told as_either (IsRunAnswer (watch_text ws) groups) (one_run one.judged (watch_text ws) groups) one.either input mine bytes status
-    other
-    (told_of_run (watch_text ws) groups as_either input mine status m) (told_of_run (watch_text ws) groups as_either input bytes other o)
+    one_run_output one (watch_text ws) groups input mine bytes status other m o
 one_command_output one (command.Trace first count) ws input mine bytes status other m o =
-    one_told as_either (IsRunAnswer (trace_text first count) (first + count))
-    (one_run one.judged (trace_text first count) (first + count)) one.either input mine bytes status other
-    (told_of_run (trace_text first count) (first + count) as_either input mine status m)
-    (told_of_run (trace_text first count) (first + count) as_either input bytes other o)
+    one_run_output one (trace_text first count) (first + count) input mine bytes status other m o
 one_command_output one (command.Groups groups number) ws input mine bytes status other m o =
     one_told as_either (IsNumberedRunAnswer groups number) (one_numbered_run groups number) one.either input mine bytes status other
     (told_of_numbered_run groups number as_either input mine status m) (told_of_numbered_run groups number as_either input bytes other o)
@@ -254,7 +257,6 @@ pub only_output : OneOutput → (arguments : List (List ℕ)) (ws : List WatchSt
     → IfSome left (λ input. GivesOutput arguments ws input old new status)
     → IfSome left (λ input. (bytes : List ℕ) (other : Status) → IsOutput arguments ws input bytes other
     → (other ≡ status) × Appends old new bytes)
-only_output one arguments ws None old new status given = tt
-only_output one arguments ws (Some input) old new status given =
-    λ bytes other o. let same =
-    one arguments ws input given.0 bytes status other given.1 o in (same.1, subst (Appends old new) (sym same.0) given.2)
+only_output one arguments ws left old new status given =
+    IfSome_then left given (λ input given bytes other o. let same = one arguments ws input given.0 bytes status other given.1 o in
+    (same.1, subst (Appends old new) (sym same.0) given.2))

@@ -1,5 +1,6 @@
 -- What is promised of the orders of writes.
 use Rattle.std.proofs.Common.{◌≡◌, ℕ, List, Option, Some, None, refl, sym, ap, ◌∙◌, subst}
+use Rattle.std.proofs.lemmas.Option.{IfSome_then}
 use Rattle.std.specs.Prelude.{◌+◌, IfSome}
 use Rattle.std.specs.Io.KnownBytes.{Appends}
 use Rattle.ia_program.specs.Programs.{Program, IsProgram}
@@ -15,12 +16,13 @@ use Rattle.ia64_top.specs.declared.status.Status.{Status}
 use Rattle.ia64_top.specs.declared.status.Status.TheVariants.{Done, TooLong, Limit, Faulted}
 use Rattle.ia64_top.specs.Arguments.{command_of, groups_of}
 use Rattle.ia64_top.specs.Statuses.{TellsAccepted}
-use Rattle.ia64_top.specs.Runs.{Printing, run_of, end_status, state_after, watch_text, trace_text, IsRunOf, ordered_run_of, IsRunOfEveryOrder}
+use Rattle.ia64_top.specs.Runs.{Printing, run_of, end_status, state_after, watch_text, trace_text, IsRunOf, ordered_run_of, IsRunOfEveryOrder, IsRunAs}
 use Rattle.ia64_top.specs.Readings.{as_loose, as_either}
-use Rattle.ia64_top.specs.Output.{IsProgramOf, IsRunAs, printing_of, IsCommandOutput, GivesRunOfEveryOrder}
+use Rattle.ia64_top.specs.Output.{IsProgramOf, printing_of, IsCommandOutput, GivesRunOfEveryOrder}
 use Rattle.watch_seam.specs.Watchers.{WatchState}
 use Rattle.ia64_top.proofs.Outputs.{GivesOne, loose_gives_one}
 use Rattle.ia64_top.proofs.Answering.{same_command, run_whole}
+use Rattle.ia64_top.proofs.Running.{run_output}
 use Rattle.ia64_top.specs.Inputs.{IsReadOf}
 use Rattle.ia64_top.proofs.Judging.{done_of_judgement}
 
@@ -117,19 +119,8 @@ each_order_of : FreeIsOrderIndependent → ZeroIsStart → GivesOne as_either
     → (c : Command) (groups : ℕ) (ws : List WatchState) (input bytes : List ℕ) (status : Status) → groups_of c ≡ Some groups
     → TellsAccepted status c → IsCommandOutput c ws input bytes status
     → (p : Program) → as_either.Gives input p → IsRunOfEveryOrder (printing_of c ws) p groups bytes status
-each_order_of law zero one (Run n) groups ws input bytes status is t o p g =
-    let same : n ≡ groups = cc in
-    subst (λ k. IsRunOfEveryOrder state_after p k bytes status) same
-    (each_order law zero one state_after n input bytes status (ran status (Run n) t) o p g)
-each_order_of law zero one (Watch n) groups ws input bytes status is t o p g =
-    let same : n ≡ groups = cc in
-    subst (λ k. IsRunOfEveryOrder (watch_text ws) p k bytes status) same
-    (each_order law zero one (watch_text ws) n input bytes status (ran status (Watch n) t) o p g)
-each_order_of law zero one (Trace first count) groups ws input bytes status is t o p g =
-    let same : first + count ≡ groups = cc in
-    subst (λ k. IsRunOfEveryOrder (trace_text first count) p k bytes status) same
-    (each_order law zero one (trace_text first count) (first + count) input bytes status (ran status (Trace first count) t) o p g)
-each_order_of law zero one c groups ws input bytes status is t o p g = cc
+each_order_of law zero one c groups ws input bytes status is t o =
+    each_order law zero one (printing_of c ws) groups input bytes status (ran status c t) (run_output c ws groups input bytes status is o)
 
 -- The promise, of arguments and an input.
 abbrev pub Promises : List (List ℕ) → Status → List ℕ → Type 0
@@ -144,27 +135,25 @@ RunsInEachOrder arguments ws old new status input =
 pub promised : FreeIsOrderIndependent → GivesOne as_either → OnePlaced → (arguments : List (List ℕ)) (c : Command) (ws : List WatchState)
     (left : Option (List ℕ)) (input bytes : List ℕ) (status : Status) → command_of arguments ≡ Some c → IfSome left (IsReadOf c input)
     → IsCommandOutput c ws input bytes status → IfSome left (Promises arguments status)
-promised law one placed arguments c ws None input bytes status e whole o = tt
-promised law one placed arguments c ws (Some l) input bytes status e whole o =
-    λ d f t p g.
+promised law one placed arguments c ws left input bytes status e whole o =
+    IfSome_then left whole (λ l whole d f t p g.
     let is = same_command arguments d c f e in
     order_independent_program law one placed status c ws l input bytes (subst (TellsAccepted status) is t) whole o p
-    (subst (λ k. IsProgramOf k l p) is g)
+    (subst (λ k. IsProgramOf k l p) is g))
 
 pub run_in_each_order : FreeIsOrderIndependent → ZeroIsStart → GivesOne as_either
     → (arguments : List (List ℕ)) (c : Command) (ws : List WatchState) (left old new : Option (List ℕ)) (input bytes : List ℕ)
     (status : Status) → command_of arguments ≡ Some c → IfSome left (IsReadOf c input)
     → IsCommandOutput c ws input bytes status → Appends old new bytes → IfSome left (RunsInEachOrder arguments ws old new status)
-run_in_each_order law zero one arguments c ws None old new input bytes status e whole o appended = tt
-run_in_each_order law zero one arguments c ws (Some l) old new input bytes status e whole o appended =
-    λ d groups f runs t p g. (
+run_in_each_order law zero one arguments c ws left old new input bytes status e whole o appended =
+    IfSome_then left whole (λ l whole d groups f runs t p g. (
       bytes,
       appended,
       let is = same_command arguments c d e f in
           let read : input ≡ l = run_whole d groups input l runs (subst (λ k. IsReadOf k input l) is whole) in
           each_order_of law zero one d groups ws input bytes status runs t (subst (λ k. IsCommandOutput k ws input bytes status) is o) p
           (subst (λ i. as_either.Gives i p) (sym read) g),
-    )
+    ))
 
 -- An input that is too long tells nothing of its program.
 pub promised_beyond : (arguments : List (List ℕ)) (left : Option (List ℕ)) → IfSome left (Promises arguments TooLong)

@@ -1,5 +1,6 @@
 -- What is stated of `run`, `watch` and `trace`.
-use Rattle.std.proofs.Common.{◌≡◌, ℕ, inl, inr, List, refl, sym, ap, ◌∙◌, subst}
+use Rattle.std.proofs.Common.{◌≡◌, ℕ, inl, inr, List, refl, sym, ap, ◌∙◌, subst, arith}
+use Rattle.std.proofs.lemmas.List.{append-nil}
 use Rattle.std.specs.Prelude.{◌↔◌, ◌⊎◌, ◌+◌}
 use Rattle.std.proofs.lemmas.Option.{same_Some}
 use Rattle.ia_program.specs.Programs.{Program}
@@ -17,22 +18,25 @@ use Rattle.ia_meaning.specs.OrderIndependence.{IsOrderIndependent}
 use Rattle.ia64_top.specs.declared.status.Status.{Status}
 use Rattle.ia64_top.specs.declared.status.Status.TheVariants.{Done, Violated, Limit, Faulted, Refused}
 use Rattle.ia64_top.specs.Judgements.{IsJudgement, IsJudgedViolated}
-use Rattle.ia64_top.specs.Runs.{Printing, run_of, end_status, state_after, watch_text, trace_text, IsRunOf}
+use Rattle.ia64_top.specs.Runs.{Printing, run_of, end_status, state_after, watch_text, trace_text, IsRunOf, IsNotRun, HaveWatched, IsRunAs}
 use Rattle.watch_seam.specs.Watchers.{WatchState}
 use Rattle.watch_seam.specs.Watching.{staying}
-use Rattle.ia64_top.specs.Watching.{IsNotRun, HaveWatched}
 use Rattle.ia64_top.specs.Readings.{InputReading, IsRefusal, as_either}
 use Rattle.std.specs.Prelude.{Some}
 use Rattle.ia64_top.specs.declared.arguments.Command.{Command}
 use Rattle.ia64_top.specs.declared.arguments.Command.TheVariants as command
 use Rattle.ia64_top.specs.Arguments.{groups_of, Judges}
-use Rattle.ia64_top.specs.Output.{IsRunAs, IsCommandOutput}
+use Rattle.ia64_top.specs.Output.{printing_of, IsCommandOutput}
 use Rattle.ia64_top.proofs.Outputs.{GivesOne, RefusesNone, IsTold, holds_where_told}
 use Rattle.ia64_top.proofs.Judging.{violated_of_judgement, done_where_free, violated_where_not_free}
 
 -- What is answered of a program: its run, or its verdict where it has violations.
 abbrev pub IsRunAnswer : Printing → ℕ → Program → List ℕ → Status → Type 0
 IsRunAnswer text groups p bytes status = IsRunOf text p groups bytes status ⊎ IsJudgedViolated p bytes status
+
+-- An input is read as the program that is accepted of it.
+pub accepted_read : (input : List ℕ) (p q : Program) → as_either.Gives input p → q ≡ p → as_either.Gives input q
+accepted_read input p q gives same = subst (λ r. as_either.Gives input r) (sym same) gives
 
 -- The end of the run tells the row of its status.
 by_end : (text : Printing) (groups : ℕ) (r : InputReading) (input : List ℕ) (p : Program) (bytes : List ℕ) (status : Status) (e : End)
@@ -86,7 +90,7 @@ status_of_run text groups r one none input bytes status o =
     holds_where_told r (IsRunAnswer text groups) (λ p s. HasNoViolation p → s ≡ end_status (run_of p groups).end)
     (end_of_answer text groups) one none input bytes status (told_of_run text groups r input bytes status o)
 
--- `Violated` is the answer exactly where the program isn't free
+-- `Violated` is the answer exactly where the program has a violation.
 run_violated_where_not_free : (text : Printing) (groups : ℕ) (r : InputReading) → GivesOne r → RefusesNone r
     → (input bytes : List ℕ) (status : Status) → IsRunAs text groups r input bytes status
     → (p : Program) → r.Gives input p → ((status ≡ Violated) ↔ (¬ HasNoViolation p))
@@ -120,6 +124,26 @@ run_of_progress run text groups p m e bytes status program free order_independen
     let has = has_run run groups p m program came in
     record { program = program; free = free; order_independent = order_independent; printed = printed; ends = answered ∙ ap end_status (ends ∙ has.end) }
 
+-- A trace that shows no group behind the first ones prints the state after these, as `run` does.
+none_traced : (groups : ℕ) (p : Program) (bytes : List ℕ) (status : Status) → IsRunOf (trace_text groups 0) p (groups + 0) bytes status
+    → IsRunOf state_after p groups bytes status
+none_traced groups p bytes status o =
+    let same : groups + 0 ≡ groups = omega arith in
+    record {
+      program = o.program;
+      free = o.free;
+      order_independent = o.order_independent;
+      printed = o.printed ∙ append-nil (run_text (run_of p groups));
+      ends = o.ends ∙ ap (λ n. end_status (run_of p n).end) same;
+    }
+
+pub run_of_trace : (groups : ℕ) (input bytes : List ℕ) (status : Status)
+    → IsRunAs (trace_text groups 0) (groups + 0) as_either input bytes status → IsRunAs state_after groups as_either input bytes status
+run_of_trace groups input bytes Done o = (o.0, o.1, none_traced groups o.0 bytes Done o.2)
+run_of_trace groups input bytes Limit o = (o.0, o.1, none_traced groups o.0 bytes Limit o.2)
+run_of_trace groups input bytes Faulted o = (o.0, o.1, none_traced groups o.0 bytes Faulted o.2)
+run_of_trace groups input bytes status o = o
+
 -- Of the program that was read the watchers have seen the run, and no other program is read.
 pub have_watched : GivesOne as_either → (groups : ℕ) (input : List ℕ) (p : Program) (old now : List WatchState) → as_either.Gives input p
     → now ≡ staying (run_of p groups).events old → HaveWatched groups input old now
@@ -135,6 +159,18 @@ pub violated_not_run : GivesOne as_either → (input : List ℕ) (q : Program) (
     → IsJudgedViolated q bytes status → IsNotRun input
 violated_not_run one input q bytes status gives judged p given free =
     (violated_of_judgement q bytes status judged.0).0 judged.1 (subst HasNoViolation (one input p q given gives) free)
+
+-- A command that runs this many groups answers as a run does.
+pub run_output : (c : Command) (ws : List WatchState) (groups : ℕ) (input bytes : List ℕ) (status : Status) → groups_of c ≡ Some groups
+    → IsCommandOutput c ws input bytes status
+    → IsRunAs (printing_of c ws) groups as_either input bytes status
+run_output (command.Run n) ws groups input bytes status runs o =
+    subst (λ k. IsRunAs state_after k as_either input bytes status) (same_Some n groups runs) o
+run_output (command.Watch n) ws groups input bytes status runs o =
+    subst (λ k. IsRunAs (watch_text ws) k as_either input bytes status) (same_Some n groups runs) o
+run_output (command.Trace first count) ws groups input bytes status runs o =
+    subst (λ k. IsRunAs (trace_text first count) k as_either input bytes status) (same_Some (first + count) groups runs) o
+run_output c ws groups input bytes status runs o = cc
 
 -- What is told of the program that a command reads.
 pub accepted_of : GivesOne as_either → RefusesNone as_either → (c : Command) (ws : List WatchState) (input bytes : List ℕ) (status : Status)
@@ -159,16 +195,8 @@ pub ended_of : GivesOne as_either → RefusesNone as_either → (c : Command) (w
     → IsCommandOutput c ws input bytes status
     → (groups : ℕ) → groups_of c ≡ Some groups → (p : Program) → as_either.Gives input p → HasNoViolation p
     → status ≡ end_status (run_of p groups).end
-ended_of one none (command.Run n) ws input bytes status o groups runs p gives free =
-    status_of_run state_after n as_either one none input bytes status o p gives free
-    ∙ ap (λ k. end_status (run_of p k).end) (same_Some n groups runs)
-ended_of one none (command.Watch n) ws input bytes status o groups runs p gives free =
-    status_of_run (watch_text ws) n as_either one none input bytes status o p gives free
-    ∙ ap (λ k. end_status (run_of p k).end) (same_Some n groups runs)
-ended_of one none (command.Trace first count) ws input bytes status o groups runs p gives free =
-    status_of_run (trace_text first count) (first + count) as_either one none input bytes status o p gives free
-    ∙ ap (λ k. end_status (run_of p k).end) (same_Some (first + count) groups runs)
-ended_of one none c ws input bytes status o groups runs p gives free = cc
+ended_of one none c ws input bytes status o groups runs =
+    status_of_run (printing_of c ws) groups as_either one none input bytes status (run_output c ws groups input bytes status runs o)
 
 -- One number of groups is that of `watch`.
 pub of_watch : (P : ℕ → Type 0) (groups : ℕ) (c : Command) → c ≡ command.Watch groups → P groups → (k : ℕ) → c ≡ command.Watch k → P k

@@ -18,12 +18,12 @@ use Rattle.ia64_top.specs.Runs.{run_of, further_events, traced_groups, trace_tex
 use Rattle.ia64_top.proofs.Running.{text_of_progress}
 use Rattle.ia64_top.proofs.WatchedRuns.{one_group}
 
--- n + 1 groups are one group further than n.
+-- A run that is n + 1 groups further is one group further than after n.
 one_more : (n : ℕ) (p : Program) (m : Progress) → groups_further (suc n) p m ≡ group_further p (groups_further n p m)
 one_more zero p m = refl
 one_more (suc n) p m = one_more n p (group_further p m)
 
--- n groups further, and then m groups, are n + m groups further.
+-- A run that is n groups further, and then m, is n + m groups further.
 add_up : (n more : ℕ) (p : Program) (m : Progress) → groups_further more p (groups_further n p m) ≡ groups_further (n + more) p m
 add_up zero more p m = let none : 0 + more ≡ more = omega arith in rw none refl
 add_up (suc n) more p m = let one : suc n + more ≡ suc (n + more) = omega arith in rw one (add_up n more p (group_further p m))
@@ -105,7 +105,7 @@ pub record IsTraced (p : Program) (groups : ℕ) (text : List ℕ) (now : Execut
   pub rest : groups_further left p now.progress ≡ groups_further groups p (begun (zero_state p))
   pub printed : bytes ++ groups_told left p now.progress ≡ text
 
--- n groups further, at most n more have begun.
+-- In n groups at most n more have begun.
 few_groups : (n : ℕ) (p : Program) (m : Progress) → (groups_further n p m).groups ≤ m.groups + n
 few_groups zero p m = omega arith
 few_groups (suc n) p m =

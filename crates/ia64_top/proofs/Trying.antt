@@ -25,7 +25,7 @@ use Rattle.ia64_top.specs.Output.{IsCommandOutput, GivesTrial, GivesTrialPart}
 use Rattle.ia64_top.proofs.Judging.{violated_of_judgement}
 use Rattle.ia64_top.proofs.Answering.{same_command}
 
--- `Done` is the answer exactly where the program is free, and `Violated` where it isn't
+-- `Done` is the answer exactly where the program has no violation, and `Violated` exactly where it has one.
 done_of_trial : (seed bundles : ℕ) (bytes : List ℕ) (status : Status) → IsTrialOutput seed bundles bytes status
     → ((status ≡ Done) ↔ HasNoViolation (trial_program seed bundles))
 done_of_trial seed bundles bytes Done o = (λ e. o.free, λ f. refl)

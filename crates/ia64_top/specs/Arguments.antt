@@ -55,10 +55,9 @@ abbrev pub trial_command : Option ℕ → Option ℕ → Option Command
 trial_command (Some seed) (Some bundles) = Some (Trial seed bundles)
 trial_command seed bundles = None
 
--- The command that the arguments are, where they are one: `build`, `stops`, `show`, `list`, `wrap`, `lift` or `check` alone,
--- `run` or
--- `watch` and a number of groups, `trace`, a number of groups and how many are traced behind them, `groups`, a number of groups
--- and the number of an order, of 64 bits, or `trial`, a seed of 64 bits and a number of bundles. Upper and lower case differ.
+-- The command that the arguments are, where they are one. `build`, `stops`, `show`, `list`, `wrap`, `lift` and `check` stand alone.
+-- `run` and `watch` have a number of groups, and `trace` a number of groups and how many are traced behind them. `groups` has a number
+-- of groups and the number of an order, of 64 bits, and `trial` a seed of 64 bits and a number of bundles. Upper and lower case differ.
 abbrev pub command_of : List (List ℕ) → Option Command
 command_of (argument ∷ []) =
     if bytes_eq argument (codes "build") then Some Build

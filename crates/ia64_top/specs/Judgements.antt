@@ -1,4 +1,4 @@
--- The verdict on a program, as `check` prints it, and `run`, `watch` and `trace` where they run nothing.
+-- What `check` prints and answers, and `run`, `watch`, `trace` and `trial` of a program with violations.
 use Rattle.std.specs.Prelude.{◌≡◌, ℕ, List}
 use Rattle.ia_program.specs.Programs.{Program, IsProgram}
 use Rattle.group_checker.specs.declared.report.Verdict.{Verdict}
@@ -6,8 +6,9 @@ use Rattle.group_checker.specs.declared.report.Verdict.TheVariants.{Accepted, Vi
 use Rattle.group_checker.specs.Reports.{IsReport, IsVerdict}
 use Rattle.group_checker.specs.Shown.{Report}
 use Rattle.ia64_top.specs.declared.status.Status.{Status}
-use Rattle.ia64_top.specs.declared.status.Status.TheVariants.{Done, Violated}
+use Rattle.ia64_top.specs.declared.status.Status.TheVariants.{Done, Violated, Refused}
 use Rattle.ia64_top.specs.Texts.{verdict_text}
+use Rattle.ia64_top.specs.Readings.{InputReading}
 
 -- A check is done where the program is accepted.
 abbrev pub verdict_status : Verdict → Status
@@ -32,3 +33,12 @@ pub record PrintsClashes (p : Program) (bytes : List ℕ) : Type 0 where
 -- The bytes and the status are those of a verdict with violations.
 abbrev pub IsJudgedViolated : Program → List ℕ → Status → Type 0
 IsJudgedViolated p bytes status = IsJudgement p bytes status × (status ≡ Violated)
+
+-- What `check` writes and answers of an input that is read in a way.
+abbrev pub IsCheckedAs : InputReading → List ℕ → List ℕ → Status → Type 0
+IsCheckedAs reading input bytes Done =
+    (program : Program) × reading.Gives input program × IsJudgement program bytes Done
+IsCheckedAs reading input bytes Violated =
+    (program : Program) × reading.Gives input program × IsJudgement program bytes Violated
+IsCheckedAs reading input bytes Refused = reading.Refuses input bytes
+IsCheckedAs reading input bytes status = ⊥

@@ -1,13 +1,13 @@
 pub mod Numbers
 pub mod Arguments
 pub mod Statuses
-pub mod Texts
-pub mod Judgements
 pub mod Inputs
+pub mod Texts
 pub mod Readings
+pub mod Judgements
+pub mod Stops
 pub mod Runs
 pub mod Trials
 pub mod Output
-pub mod Watching
 pub mod NamedAddresses
 pub mod Limits

@@ -1,32 +1,33 @@
--- The stated output: what the arguments and the input give. Each command has a table of its own, a row for each status.
-use Rattle.std.specs.Prelude.{◌≡◌, ◌⊎◌, ℕ, ◌+◌, ◌<◌, ◌≤◌, nat_lt, Bool, false, List, [], length, take, Option, MatchOption, MatchBool}
+-- The stated output is what the arguments, the watchers and the input give. A table of a command has a row for each status: here stand
+-- those of commands that make something of a program, and in `Judgements`, `Runs` and `Trials` those of the others.
+use Rattle.std.specs.Prelude.{◌≡◌, ℕ, ◌+◌, ◌<◌, ◌≤◌, nat_lt, Bool, false, List, [], length, take, Option, Some, MatchOption, MatchBool}
 use Rattle.std.specs.Io.KnownBytes.{Appends}
 use Rattle.ia64_top.specs.declared.limits.TheConstants.{INPUT_LIMIT}
 use Rattle.ia64_top.specs.declared.arguments.Command.{Command}
 use Rattle.ia64_top.specs.declared.arguments.Command.TheVariants as command
 use Rattle.ia64_top.specs.declared.status.Status.{Status}
-use Rattle.ia64_top.specs.declared.status.Status.TheVariants.{Done, Violated, Words, Refused, TooLong, Limit, Faulted}
-use Rattle.ia_program.specs.Programs.{Program, IsProgram}
+use Rattle.ia64_top.specs.declared.status.Status.TheVariants.{Done, Words, Refused, TooLong}
+use Rattle.ia_program.specs.Programs.{Program}
 use Rattle.image_form.specs.Images.{IsImage, Written, BeginsAsImage}
 use Rattle.image_form.specs.declared.version.Version.TheVariants.{Two}
 use Rattle.asm_build.specs.CanonicalText.{canonical_text}
 use Rattle.asm_build.specs.Listing.{IsListing}
 use Rattle.ia64_top.specs.Arguments.{command_of}
-use Rattle.ia64_top.specs.Judgements.{IsJudgement, PrintsClashes}
+use Rattle.ia64_top.specs.Judgements.{IsCheckedAs, PrintsClashes}
 use Rattle.trial_maker.specs.Trials.{trial_program}
 use Rattle.watch_seam.specs.Watchers.{WatchState}
-use Rattle.ia64_top.specs.Runs.{Printing, state_after, watch_text, trace_text, IsRunOf, IsNumberedRunOf, IsRunOfEveryOrder}
+use Rattle.ia64_top.specs.Stops.{IsPackedText}
+use Rattle.ia64_top.specs.Runs.{Printing, state_after, watch_text, trace_text, IsRunAs, IsNumberedRunAs, IsRunOfEveryOrder}
 use Rattle.ia64_top.specs.Trials.{IsTrialOutput}
-use Rattle.order_laws.specs.Violations.{HasNoViolation}
-use Rattle.stop_placer.specs.Packed.{Packed}
-use Rattle.stop_placer.specs.Laws.{KeepsText}
-use Rattle.stop_placer.specs.Placing.{IsPlaced}
-use Rattle.ia64_top.specs.Texts.{packed_text}
-use Rattle.ia64_top.specs.Readings.{InputReading, IsRefusal, as_image, as_bundles, as_text, as_loose, as_either}
+use Rattle.ia64_top.specs.Readings.{InputReading, as_image, as_bundles, as_text, as_loose, as_either}
 
 -- An input that isn't too long. An image is never longer than the limit.
 abbrev pub IsWithinLimit : List ℕ → Type 0
 IsWithinLimit input = ¬ BeginsAsImage input → length input ≤ INPUT_LIMIT
+
+-- What is said of the program that an input is read as, an image or a text, where it isn't too long.
+abbrev pub IfRead : List ℕ → (Program → Type 0) → Type 0
+IfRead input Says = IsWithinLimit input → (program : Program) → as_either.Gives input program → Says program
 
 -- What a command writes and answers that makes something of the program that its input is read as: a row for
 -- each status, with where it comes.
@@ -40,52 +41,6 @@ pub record IsCanonical (program : Program) (text : List ℕ) : Type 0 where
   pub canonical : text ≡ canonical_text program
   pub back : as_text.Gives text program
   pub short : length text ≤ INPUT_LIMIT
-
--- The text is that of the program into which the input is packed, with the reason of each stop. It has no violation, and
--- has the instructions of the input, in order, with nops beside them.
-pub record IsPackedText (input : List ℕ) (program : Program) (text : List ℕ) : Type 0 where
-  pub packed : Packed
-  pub placed : IsPlaced input packed
-  pub is : packed.program ≡ program
-  pub valid : IsProgram program
-  pub free : HasNoViolation program
-  pub keeps : KeepsText input packed
-  pub printed : text ≡ packed_text packed
-
--- What `check` writes and answers of an input that is read in a way.
-abbrev pub IsCheckedAs : InputReading → List ℕ → List ℕ → Status → Type 0
-IsCheckedAs reading input bytes Done =
-    (program : Program) × reading.Gives input program × IsJudgement program bytes Done
-IsCheckedAs reading input bytes Violated =
-    (program : Program) × reading.Gives input program × IsJudgement program bytes Violated
-IsCheckedAs reading input bytes Refused = reading.Refuses input bytes
-IsCheckedAs reading input bytes status = ⊥
-
--- What is written and answered of an input that is read in a way, where n groups of its program are run and this is
--- printed. A program with violations isn't run: it gets the verdict that `check` gives it.
-abbrev pub IsRunAs : Printing → ℕ → InputReading → List ℕ → List ℕ → Status → Type 0
-IsRunAs text groups reading input bytes Done =
-    (program : Program) × reading.Gives input program × IsRunOf text program groups bytes Done
-IsRunAs text groups reading input bytes Violated =
-    (program : Program) × reading.Gives input program × IsJudgement program bytes Violated
-IsRunAs text groups reading input bytes Limit =
-    (program : Program) × reading.Gives input program × IsRunOf text program groups bytes Limit
-IsRunAs text groups reading input bytes Faulted =
-    (program : Program) × reading.Gives input program × IsRunOf text program groups bytes Faulted
-IsRunAs text groups reading input bytes Refused = reading.Refuses input bytes
-IsRunAs text groups reading input bytes status = ⊥
-
--- What is written and answered of an input that is read in a way, where n groups of its program are run all at once, in
--- the order with a number. No verdict is made, so a program with violations is run as any other.
-abbrev pub IsNumberedRunAs : (groups number : ℕ) → InputReading → List ℕ → List ℕ → Status → Type 0
-IsNumberedRunAs groups number reading input bytes Done =
-    (program : Program) × reading.Gives input program × IsNumberedRunOf program groups number bytes Done
-IsNumberedRunAs groups number reading input bytes Limit =
-    (program : Program) × reading.Gives input program × IsNumberedRunOf program groups number bytes Limit
-IsNumberedRunAs groups number reading input bytes Faulted =
-    (program : Program) × reading.Gives input program × IsNumberedRunOf program groups number bytes Faulted
-IsNumberedRunAs groups number reading input bytes Refused = reading.Refuses input bytes
-IsNumberedRunAs groups number reading input bytes status = ⊥
 
 -- The program that a command works on: the one that its input is read as in the way of the command, and the stated one of
 -- `trial`.
@@ -146,6 +101,14 @@ IsCommandOutput (command.Trial seed bundles) watchers input bytes status =
 abbrev pub is_too_long : Command → List ℕ → Bool
 is_too_long (command.Trial seed bundles) input = false
 is_too_long command input = nat_lt INPUT_LIMIT (length input)
+
+-- What is said of the command that the arguments are.
+abbrev pub IfCommand : List (List ℕ) → (Command → Type 0) → Type 0
+IfCommand arguments Says = (command : Command) → command_of arguments ≡ Some command → Says command
+
+-- What is said of the two numbers of `trial`, where the arguments are this command.
+abbrev pub IfTrial : List (List ℕ) → (ℕ → ℕ → Type 0) → Type 0
+IfTrial arguments Says = (seed bundles : ℕ) → command_of arguments ≡ Some (command.Trial seed bundles) → Says seed bundles
 
 -- The bytes that are written and the status that is answered, for these arguments, these watchers and this input.
 abbrev pub IsOutput : List (List ℕ) → List WatchState → List ℕ → List ℕ → Status → Type 0

@@ -1,5 +1,5 @@
--- What `run`, `watch`, `trace` and `groups` print and answer of a program that they run.
-use Rattle.std.specs.Prelude.{◌≡◌, ℕ, zero, suc, List, [], ◌++◌, length, drop, flat_map}
+-- What `run`, `watch`, `trace` and `groups` print and answer, and which watchers stay after `watch`.
+use Rattle.std.specs.Prelude.{◌≡◌, ◌⊎◌, ℕ, zero, suc, List, [], ◌++◌, length, drop, flat_map}
 use Rattle.ia_program.specs.declared.ending.End.{End}
 use Rattle.ia_program.specs.declared.ending.End.TheVariants as end
 use Rattle.ia_program.specs.declared.ending.GroupEvent.{GroupEvent}
@@ -12,9 +12,11 @@ use Rattle.ia_meaning.specs.OrderIndependence.{IsOrderIndependent}
 use Rattle.ia_meaning.specs.Runs.{run_text}
 use Rattle.order_laws.specs.Violations.{HasNoViolation}
 use Rattle.watch_seam.specs.Watchers.{WatchState, line, event_text}
-use Rattle.watch_seam.specs.Watching.{numbered, reports}
+use Rattle.watch_seam.specs.Watching.{numbered, reports, staying, IsCutShort}
 use Rattle.ia64_top.specs.declared.status.Status.{Status}
-use Rattle.ia64_top.specs.declared.status.Status.TheVariants.{Done, Limit, Faulted}
+use Rattle.ia64_top.specs.declared.status.Status.TheVariants.{Done, Violated, Words, Refused, TooLong, ReadFault, Limit, Faulted}
+use Rattle.ia64_top.specs.Judgements.{IsJudgement}
+use Rattle.ia64_top.specs.Readings.{InputReading, as_either}
 
 -- The run of a program from the zero state, of at most n groups.
 abbrev pub run_of : Program → ℕ → Run
@@ -84,3 +86,55 @@ abbrev pub IsRunOfEveryOrder : Printing → Program → ℕ → List ℕ → Sta
 IsRunOfEveryOrder text p groups bytes status =
     (codes : List (List ℕ))
     → (bytes ≡ text (ordered_run_of p codes) groups) × (status ≡ end_status (ordered_run_of p codes groups).end)
+
+-- What is written and answered of an input that is read in a way, where n groups of its program are run and this is
+-- printed. A program with violations isn't run: it gets the verdict that `check` gives it.
+abbrev pub IsRunAs : Printing → ℕ → InputReading → List ℕ → List ℕ → Status → Type 0
+IsRunAs text groups reading input bytes Done =
+    (program : Program) × reading.Gives input program × IsRunOf text program groups bytes Done
+IsRunAs text groups reading input bytes Violated =
+    (program : Program) × reading.Gives input program × IsJudgement program bytes Violated
+IsRunAs text groups reading input bytes Limit =
+    (program : Program) × reading.Gives input program × IsRunOf text program groups bytes Limit
+IsRunAs text groups reading input bytes Faulted =
+    (program : Program) × reading.Gives input program × IsRunOf text program groups bytes Faulted
+IsRunAs text groups reading input bytes Refused = reading.Refuses input bytes
+IsRunAs text groups reading input bytes status = ⊥
+
+-- What is written and answered of an input that is read in a way, where n groups of its program are run all at once, in
+-- the order with a number. No verdict is made, so a program with violations is run as any other.
+abbrev pub IsNumberedRunAs : (groups number : ℕ) → InputReading → List ℕ → List ℕ → Status → Type 0
+IsNumberedRunAs groups number reading input bytes Done =
+    (program : Program) × reading.Gives input program × IsNumberedRunOf program groups number bytes Done
+IsNumberedRunAs groups number reading input bytes Limit =
+    (program : Program) × reading.Gives input program × IsNumberedRunOf program groups number bytes Limit
+IsNumberedRunAs groups number reading input bytes Faulted =
+    (program : Program) × reading.Gives input program × IsNumberedRunOf program groups number bytes Faulted
+IsNumberedRunAs groups number reading input bytes Refused = reading.Refuses input bytes
+IsNumberedRunAs groups number reading input bytes status = ⊥
+
+-- A call that ends so has run nothing.
+abbrev pub RanNothing : Status → Type 0
+RanNothing Violated = Unit {0}
+RanNothing Words = Unit {0}
+RanNothing Refused = Unit {0}
+RanNothing TooLong = Unit {0}
+RanNothing ReadFault = Unit {0}
+RanNothing status = ⊥
+
+-- The input is read as no program that is accepted.
+abbrev pub IsNotRun : List ℕ → Type 0
+IsNotRun input = (program : Program) → as_either.Gives input program → ¬ HasNoViolation program
+
+-- Of an accepted program the watchers have seen all groups of its run, and those that are full are gone.
+abbrev pub HaveWatched : ℕ → List ℕ → (old now : List WatchState) → Type 0
+HaveWatched groups input old now =
+    (program : Program) → as_either.Gives input program → HasNoViolation program
+    → now ≡ staying (run_of program groups).events old
+
+-- Where memory ran out, the watchers are as they were, or where they were in the course of the run of an accepted program.
+abbrev pub HaveWatchedPart : ℕ → List ℕ → (old now : List WatchState) → Type 0
+HaveWatchedPart groups input old now =
+    (now ≡ old)
+    ⊎ ((program : Program) × as_either.Gives input program × HasNoViolation program
+    × IsCutShort (run_of program groups).events old now)

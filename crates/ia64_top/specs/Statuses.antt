@@ -1,5 +1,5 @@
 -- How a call of the top call may end.
-use Rattle.std.specs.Prelude.{ℕ}
+use Rattle.std.specs.Prelude.{ℕ, List, Option, IfSome}
 use Rattle.ia64_top.specs.declared.arguments.Command.{Command}
 use Rattle.ia64_top.specs.declared.arguments.Command.TheVariants as command
 use Rattle.ia64_top.specs.declared.status.Status.{Status}
@@ -25,6 +25,10 @@ IsAnswer ReadFault = ⊥
 IsAnswer WriteFault = ⊥
 IsAnswer NoMemory = ⊥
 IsAnswer status = Unit {0}
+
+-- What is said of the whole input of a call that gave an answer, where the source tells its bytes.
+abbrev pub IfAnswered : Status → Option (List ℕ) → (List ℕ → Type 0) → Type 0
+IfAnswered status left Says = IsAnswer status → IfSome left Says
 
 -- The status tells of a program: it was made into something else or judged, or its run ended or came to its limit.
 abbrev pub TellsOfProgram : Status → Type 0

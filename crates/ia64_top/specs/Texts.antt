@@ -1,5 +1,5 @@
 -- What is printed. Every line ends with a line feed.
-use Rattle.std.specs.Prelude.{ℕ, List, [], ◌∷◌, ◌++◌, codes, decimal, flat_map}
+use Rattle.std.specs.Prelude.{ℕ, List, [], ◌++◌, codes, decimal, flat_map}
 use Rattle.ia_insn.specs.RegisterTexts.{gr_text, pr_text, br_text}
 use Rattle.ia_program.specs.declared.place.Place.{Place}
 use Rattle.ia_program.specs.Texts.{place_text}
@@ -15,11 +15,6 @@ use Rattle.insn_codec.specs.declared.bundle.SlotFault.TheVariants.{ReservedTempl
 use Rattle.asm_build.specs.declared.reason.TextError.{TextError}
 use Rattle.asm_build.specs.declared.reason.TextError.TheVariants as error
 use Rattle.asm_build.specs.Reasons.{reason_text}
-use Rattle.asm_build.specs.CanonicalText.{canonical_text}
-use Rattle.stop_placer.specs.declared.packed.Why.{Why}
-use Rattle.stop_placer.specs.declared.packed.Why.TheVariants.{Written, Long, Pair}
-use Rattle.stop_placer.specs.declared.packed.StopWhy.{StopWhy}
-use Rattle.stop_placer.specs.Packed.{Packed}
 use Rattle.image_form.specs.declared.fault.ImageFault.{ImageFault}
 use Rattle.image_form.specs.declared.fault.ImageFault.TheVariants.{Short, Magic, Counts, Length, Entry, Bundle}
 use Rattle.image_form.specs.declared.fault.ImageFault.TheVariants.{Target, LongRun, Relation, Memory}
@@ -47,25 +42,11 @@ violation_text v =
     rule_text v.rule ++ codes " " ++ resource_text v.resource ++ codes " " ++ place_text v.first ++ codes " "
     ++ place_text v.second
 
--- `accepted`, or how many violations there are, and a line for each that is shown
+-- The verdict is `accepted`, or how many violations there are, and a line for each that is shown.
 abbrev pub verdict_text : Verdict → List ℕ
 verdict_text (Accepted p) = line (codes "accepted")
 verdict_text (Violations report) =
     line (codes "violations " ++ decimal report.total) ++ flat_map (λ v. line (violation_text v)) report.shown
-
--- Why a stop stands where it does: of a pair the violation that it prevents.
-abbrev pub why_text : Why → List ℕ
-why_text Written = codes "written"
-why_text Long = codes "long"
-why_text (Pair v) = violation_text v
-
--- A stop as a comment: the place that it follows, and why.
-abbrev pub stop_text : StopWhy → List ℕ
-stop_text s = codes "// " ++ place_text s.after ++ codes " " ++ why_text s.why
-
--- The canonical text of the program, and a line for each stop.
-abbrev pub packed_text : Packed → List ℕ
-packed_text k = canonical_text k.program ++ flat_map (λ s. line (stop_text s)) k.stops
 
 -- The bundle and the slot of a place.
 abbrev pub slot_text : Place → List ℕ

@@ -3,13 +3,16 @@
 
 mod answer;
 mod arguments;
+mod check;
+mod conversions;
 mod laws;
 pub mod limits;
+mod runs;
 mod status;
+mod stops;
 mod text;
 mod top;
-mod tracing;
-mod watching;
+mod trial;
 
 pub use arguments::{Arguments, Command};
 pub use laws::{limits_are_stated, names_are_addresses, one_numeral, one_output};

@@ -1,24 +1,18 @@
-//! What is printed.
+//! What is printed of violations, and of an input with a fault.
 
-ghost use Rattle.std.specs.Prelude.{◌≡◌, ◌++◌, ◌∷◌, IfOk, OnOk, Some, codes, decimal, flat_map, string_bytes};
-ghost use Rattle.ia_meaning.specs.StateText.{line, word_text};
-ghost use Rattle.ia64_top.specs.Trials.{value_of, register_sum, trial_text};
-ghost use Rattle.ia_meaning.specs.Names.{look};
-ghost use Rattle.ia64_top.specs.Texts.{why_text, stop_text, packed_text, rule_text, resource_text, violation_text, verdict_text, slot_text, fault_text, refusal_text, text_fault_text, text_refusal_text};
+ghost use Rattle.std.specs.Prelude.{◌≡◌, IfOk, Some, string_bytes};
+ghost use Rattle.ia64_top.specs.Texts.{rule_text, resource_text, violation_text, verdict_text, slot_text, fault_text, refusal_text, text_fault_text, text_refusal_text};
 ghost use Rattle.group_checker.specs.declared.report.Verdict.TheVariants.{Violations};
 ghost use Rattle.asm_build.specs.declared.reason.TextError.TheVariants as error;
 
-use asm_build::{Reason, disassemble};
-use emulator::{Machine, WordText, push_outcome};
+use asm_build::Reason;
 use group_checker::{Report, Violation};
-use ia_insn::Gr;
-use ia_program::{End, Place};
+use ia_program::Place;
 use image_form::ImageFault;
 use insn_codec::SlotFault;
 use resource_sets::{Resource, Rule};
 use std::alloc::{AllocError, Global};
 use std::fmt;
-use stop_placer::{Packed, StopWhy, Why};
 
 /// A rule of groups, as it is printed.
 #[derive(Clone, Copy, Debug)]
@@ -67,8 +61,8 @@ impl fmt::Display for ResourceText {
 
 /// A violation, as it is printed.
 #[derive(Clone, Copy, Debug)]
-struct ViolationText {
-    violation: Violation,
+pub(crate) struct ViolationText {
+    pub violation: Violation,
 }
 
 impl fmt::Display for ViolationText {
@@ -86,63 +80,6 @@ impl fmt::Display for ViolationText {
         let resource = ResourceText { resource };
         write!(f, "{rule} {resource} {first} {second}")
     }
-}
-
-/// Why a stop stands where it does, as it is printed.
-#[derive(Clone, Copy, Debug)]
-struct WhyText {
-    why: Why,
-}
-
-impl fmt::Display for WhyText {
-    ghost output = { λ shown. Some (why_text shown.why) };
-
-    /// `written`, `long`, or the violation that the stop prevents.
-    fn fmt<W: fmt::Write>(&self, f: &mut fmt::Formatter<W>) -> fmt::Result {
-        match self.why {
-            Why::Written => write!(f, "written"),
-            Why::Long => write!(f, "long"),
-            Why::Pair(violation) => write!(f, "{}", ViolationText { violation }),
-        }
-    }
-}
-
-/// A stop, as it is printed.
-#[derive(Clone, Copy, Debug)]
-struct StopText {
-    stop: StopWhy,
-}
-
-impl fmt::Display for StopText {
-    ghost output = { λ shown. Some (stop_text shown.stop) };
-
-    /// A comment: the place that the stop follows, and why.
-    fn fmt<W: fmt::Write>(&self, f: &mut fmt::Formatter<W>) -> fmt::Result {
-        let StopWhy { after, why } = self.stop;
-        let why = WhyText { why };
-        write!(f, "// {after} {why}")
-    }
-}
-
-/// The lines of stops.
-fn stop_lines(alloc: Global, stops: &[StopWhy]) -> Result<String, AllocError>
-    ensures { IfOk result (λ text. string_bytes text ≡ flat_map (λ s. line (stop_text s)) stops.now) }
-{
-    let mut text = String::new(alloc);
-    for stop in stops {
-        let shown = StopText { stop: *stop };
-        writeln!(text, "{shown}")?;
-    }
-    Ok(text)
-}
-
-/// What is printed of a packed text.
-pub(crate) fn packed_text(alloc: Global, packed: &Packed) -> Result<Vec<u8>, AllocError>
-    ensures { IfOk result (λ text. text.items ≡ packed_text packed.now) }
-{
-    let mut text = disassemble(alloc, packed.program())?;
-    text.extend_from_slice(stop_lines(alloc, packed.stops())?.as_bytes())?;
-    Ok(text)
 }
 
 /// What is printed of a program's violations.
@@ -246,76 +183,4 @@ pub(crate) fn text_refusal(alloc: Global, line: u32, reason: Reason) -> Result<S
 {
     let shown = LineText { line, reason };
     format!(in alloc; "{shown}\n")
-}
-
-/// What a general register holds, and 0 where it is outside the frame.
-fn register_value(machine: &Machine<'_>, register: Gr) -> u64
-    ensures { result ≡ value_of (look machine.now.progress.state.registers register) }
-{
-    match machine.gr(register) {
-        Ok(cell) => cell.value,
-        Err(_) => 0,
-    }
-}
-
-/// The sum of what r8 to r15 hold, modulo 2 to the power of 64.
-fn register_sum(machine: &Machine<'_>) -> u64
-    ensures { result ≡ register_sum machine.now.progress.state.registers }
-{
-    let mut sum: u64 = 0;
-    for n in 8..16 {
-        sum = sum.wrapping_add(register_value(machine, Gr::of_field(n)));
-    }
-    sum
-}
-
-/// The line of that sum.
-fn push_sum(out: &mut String, machine: &Machine<'_>) -> Result<(), AllocError>
-    ensures { OnOk result (string_bytes out.new ≡ string_bytes out.old ++ line (codes "sum " ++ word_text (register_sum machine.now.progress.state.registers))) }
-{
-    let sum = WordText {
-        word: register_sum(machine),
-    };
-    writeln!(out, "sum {sum}")
-}
-
-/// The first two lines of a trial whose program is accepted, as they are printed.
-#[derive(Clone, Copy, Debug)]
-struct TrialHead {
-    seed: u64,
-    bundles: u32,
-}
-
-impl fmt::Display for TrialHead {
-    ghost output = { λ shown. Some (codes "trial " ++ decimal shown.seed ++ codes " " ++ decimal shown.bundles ++ 10 ∷ codes "accepted") };
-
-    /// The seed, the number of bundles, and the verdict.
-    fn fmt<W: fmt::Write>(&self, f: &mut fmt::Formatter<W>) -> fmt::Result {
-        let (seed, bundles) = (self.seed, self.bundles);
-        write!(f, "trial {seed} {bundles}\naccepted")
-    }
-}
-
-/// What is printed of those lines.
-fn trial_head(alloc: Global, seed: u64, bundles: u32) -> Result<String, AllocError>
-    ensures { IfOk result (λ text. string_bytes text ≡ line (codes "trial " ++ decimal seed ++ codes " " ++ decimal bundles ++ 10 ∷ codes "accepted")) }
-{
-    let shown = TrialHead { seed, bundles };
-    format!(in alloc; "{shown}\n")
-}
-
-/// What is printed of a trial whose program is accepted and has run so.
-pub(crate) fn trial_text(
-    alloc: Global,
-    seed: u64,
-    bundles: u32,
-    machine: &Machine<'_>,
-    end: &End,
-) -> Result<String, AllocError>
-    ensures { IfOk result (λ text. string_bytes text ≡ trial_text seed bundles end.now machine.now.progress.groups machine.now.progress.state.registers) }
-{
-    let mut text = trial_head(alloc, seed, bundles)?;
-    push_outcome(&mut text, machine, end)?;
-    push_sum(&mut text, machine)?;
-    Ok(text)
 }

@@ -8,17 +8,16 @@ ghost use Rattle.io_seam.specs.Faults.{Rose};
 ghost use Rattle.io_seam.specs.Bytes.{LosesFirst, LosesAtMost};
 ghost use Rattle.ia64_top.specs.declared.limits.TheConstants.{INPUT_LIMIT};
 ghost use Rattle.ia64_top.specs.Arguments.{command_of, run_arguments, Judges, groups_of, IsTrial, IsWatch};
-ghost use Rattle.ia64_top.specs.Statuses.{IsAnswer, TellsOfProgram, TellsAccepted, EndsTrial};
+ghost use Rattle.ia64_top.specs.Statuses.{IsAnswer, IfAnswered, TellsOfProgram, TellsAccepted, EndsTrial};
 ghost use Rattle.ia64_top.specs.Inputs.{IsReadOf};
 ghost use Rattle.ia_program.specs.Programs.{Program};
 ghost use Rattle.ia_meaning.specs.OrderIndependence.{IsOrderIndependent};
 ghost use Rattle.order_laws.specs.Violations.{HasNoViolation};
-ghost use Rattle.ia64_top.specs.Runs.{run_of, numbered_run_of, end_status};
+ghost use Rattle.ia64_top.specs.Runs.{run_of, numbered_run_of, end_status, RanNothing, IsNotRun, HaveWatched, HaveWatchedPart};
 ghost use Rattle.ia64_top.specs.Readings.{as_either};
 ghost use Rattle.trial_maker.specs.Trials.{trial_program};
 ghost use Rattle.watch_seam.specs.Watching.{AwaitGroups};
-ghost use Rattle.ia64_top.specs.Watching.{RanNothing, IsNotRun, HaveWatched, HaveWatchedPart};
-ghost use Rattle.ia64_top.specs.Output.{is_too_long, IsWithinLimit, IsProgramOf, IsUnreadable, printing_of, IsOutput, GivesOutput, GivesPart, GivesClashes, GivesTrial, GivesTrialPart, GivesRunOfEveryOrder};
+ghost use Rattle.ia64_top.specs.Output.{is_too_long, IsWithinLimit, IfRead, IfCommand, IfTrial, IsProgramOf, IsUnreadable, printing_of, IsOutput, GivesOutput, GivesPart, GivesClashes, GivesTrial, GivesTrialPart, GivesRunOfEveryOrder};
 
 use crate::answer::respond;
 use crate::arguments::{Arguments, Command};
@@ -80,73 +79,69 @@ pub fn ia64<S: Source, K: Sink>(
     requires room { AwaitGroups (map (λ b. state b) watchers.old.items) }
 
     // What is written and answered is the stated output of the arguments and of all that the source had.
-    ensures output { IsAnswer result → IfSome (S.left source.old) (λ input.
+    ensures output { IfAnswered result (S.left source.old) (λ input.
         GivesOutput arguments.now (map (λ b. state b) watchers.old.items) input (K.given sink.old) (K.given sink.new) result) }
 
     // No other bytes and no other status are stated for them, so each status comes exactly where its row says.
-    ensures only { IsAnswer result → IfSome (S.left source.old) (λ input.
+    ensures only { IfAnswered result (S.left source.old) (λ input.
         (bytes : List ℕ) (status : Status) → IsOutput arguments.now (map (λ b. state b) watchers.old.items) input bytes status →
         (status ≡ result) × Appends (K.given sink.old) (K.given sink.new) bytes) }
 
     // An input is refused exactly where the command's way of reading finds no program in it.
-    ensures refused { IsAnswer result → IfSome (S.left source.old) (λ input. (command : Command) →
-        command_of arguments.now ≡ Some command → is_too_long command input ≡ false →
-        ((result ≡ Status.Refused) ↔ IsUnreadable command input)) }
+    ensures refused { IfAnswered result (S.left source.old) (λ input. IfCommand arguments.now (λ command. is_too_long command input ≡ false →
+        ((result ≡ Status.Refused) ↔ IsUnreadable command input))) }
 
     // `accepted` is printed exactly where on no walk two slots of a group break a rule.
-    ensures accepted { IsAnswer result → IfSome (S.left source.old) (λ input.
-        command_of arguments.now ≡ Some Command.Check → IsWithinLimit input → (program : Program) → as_either.Gives input program →
-        ((result ≡ Status.Done) ↔ HasNoViolation program)) }
+    ensures accepted { IfAnswered result (S.left source.old) (λ input. command_of arguments.now ≡ Some Command.Check →
+        IfRead input (λ program. (result ≡ Status.Done) ↔ HasNoViolation program)) }
 
     // What `accepted` promises. Where `check`, `stops` or `trial` is done, or `run`, `watch` or `trace` prints a state, the
     // program is order independent: from every state at an entry, for every number of groups and every order of the writes in
     // each group, groups at once leave what slots one by one leave.
-    ensures order_independent { IsAnswer result → IfSome (S.left source.old) (λ input. (command : Command) →
-        command_of arguments.now ≡ Some command → TellsAccepted result command → (program : Program) → IsProgramOf command input program → IsOrderIndependent program) }
+    ensures order_independent { IfAnswered result (S.left source.old) (λ input. IfCommand arguments.now (λ command. TellsAccepted result command →
+        (program : Program) → IsProgramOf command input program → IsOrderIndependent program)) }
 
     // Each state that `run`, `watch` and `trace` print is the one of groups at once from the zero state, whatever the order of
     // their writes, and so is what the watchers report.
-    ensures ordered { IsAnswer result → IfSome (S.left source.old) (λ input. (command : Command) (groups : ℕ) →
+    ensures ordered { IfAnswered result (S.left source.old) (λ input. (command : Command) (groups : ℕ) →
         command_of arguments.now ≡ Some command → groups_of command ≡ Some groups → TellsAccepted result command → (program : Program) → as_either.Gives input program →
         GivesRunOfEveryOrder (printing_of command (map (λ b. state b) watchers.old.items)) program groups (K.given sink.old) (K.given sink.new) result) }
 
     // Of a program without violations `groups` gives what `run` gives for as many groups, the bytes and the status, whatever
     // the number of the order.
-    ensures same_as_run { IsAnswer result → IfSome (S.left source.old) (λ input. (groups number : ℕ) →
-        command_of arguments.now ≡ Some (Command.Groups groups number) → IsWithinLimit input → (program : Program) → as_either.Gives input program → HasNoViolation program →
-        GivesOutput (run_arguments groups) (map (λ b. state b) watchers.old.items) input (K.given sink.old) (K.given sink.new) result) }
+    ensures same_as_run { IfAnswered result (S.left source.old) (λ input. (groups number : ℕ) →
+        command_of arguments.now ≡ Some (Command.Groups groups number) → IfRead input (λ program. HasNoViolation program →
+        GivesOutput (run_arguments groups) (map (λ b. state b) watchers.old.items) input (K.given sink.old) (K.given sink.new) result)) }
 
     // `check`, `run`, `watch` and `trace` answer with violations exactly where on some walk two slots of a group break a rule.
-    ensures judged { IsAnswer result → IfSome (S.left source.old) (λ input. (command : Command) →
-        command_of arguments.now ≡ Some command → Judges command → IsWithinLimit input → (program : Program) → as_either.Gives input program →
-        ((result ≡ Status.Violated) ↔ (¬ HasNoViolation program))) }
+    ensures judged { IfAnswered result (S.left source.old) (λ input. IfCommand arguments.now (λ command. Judges command →
+        IfRead input (λ program. (result ≡ Status.Violated) ↔ (¬ HasNoViolation program)))) }
 
     // Then the bytes are the number of violations and a line for each of the first ones. Each violation is two slots of a
     // group that on some walk break a rule.
-    ensures clashes { result ≡ Status.Violated → IfSome (S.left source.old) (λ input. (command : Command) →
-        command_of arguments.now ≡ Some command → (program : Program) → IsProgramOf command input program →
-        GivesClashes program (K.given sink.old) (K.given sink.new)) }
+    ensures clashes { result ≡ Status.Violated → IfSome (S.left source.old) (λ input. IfCommand arguments.now (λ command.
+        (program : Program) → IsProgramOf command input program → GivesClashes program (K.given sink.old) (K.given sink.new))) }
 
     // Of any other program the end of the run tells the status: `Done` comes exactly where it is a `break`,
     // `Limit` where it is the limit of groups, and `Faulted` where it is a fault.
-    ensures ended { IsAnswer result → IfSome (S.left source.old) (λ input. (command : Command) (groups : ℕ) →
-        command_of arguments.now ≡ Some command → groups_of command ≡ Some groups → IsWithinLimit input → (program : Program) → as_either.Gives input program → HasNoViolation program →
-        result ≡ end_status (run_of program groups).end) }
+    ensures ended { IfAnswered result (S.left source.old) (λ input. (command : Command) (groups : ℕ) →
+        command_of arguments.now ≡ Some command → groups_of command ≡ Some groups →
+        IfRead input (λ program. HasNoViolation program → result ≡ end_status (run_of program groups).end)) }
 
     // `groups` runs every program, whether it has violations or not, and the end of its run tells the status.
-    ensures ended_at_once { IsAnswer result → IfSome (S.left source.old) (λ input. (groups number : ℕ) →
-        command_of arguments.now ≡ Some (Command.Groups groups number) → IsWithinLimit input → (program : Program) → as_either.Gives input program →
-        result ≡ end_status (numbered_run_of program groups number).end) }
+    ensures ended_at_once { IfAnswered result (S.left source.old) (λ input. (groups number : ℕ) →
+        command_of arguments.now ≡ Some (Command.Groups groups number) →
+        IfRead input (λ program. result ≡ end_status (numbered_run_of program groups number).end)) }
 
     // `trial` is done exactly where its program has no violations, and its status is `Violated` exactly where it has some.
-    ensures tried { IsAnswer result → (seed bundles : ℕ) → command_of arguments.now ≡ Some (Command.Trial seed bundles) →
-        ((result ≡ Status.Done) ↔ HasNoViolation (trial_program seed bundles)) × ((result ≡ Status.Violated) ↔ (¬ HasNoViolation (trial_program seed bundles))) }
+    ensures tried { IsAnswer result → IfTrial arguments.now (λ seed bundles.
+        ((result ≡ Status.Done) ↔ HasNoViolation (trial_program seed bundles)) × ((result ≡ Status.Violated) ↔ (¬ HasNoViolation (trial_program seed bundles)))) }
 
     // What `trial` writes, and its status, depend on its two numbers alone, whether the source tells its bytes or not.
-    ensures trial_output { IsAnswer result → (seed bundles : ℕ) → command_of arguments.now ≡ Some (Command.Trial seed bundles) →
-        GivesTrial seed bundles (K.given sink.old) (K.given sink.new) result }
-    ensures trial_part { result ≡ Status.WriteFault → (seed bundles : ℕ) → command_of arguments.now ≡ Some (Command.Trial seed bundles) →
-        GivesTrialPart seed bundles (K.given sink.old) (K.given sink.new) }
+    ensures trial_output { IsAnswer result → IfTrial arguments.now (λ seed bundles.
+        GivesTrial seed bundles (K.given sink.old) (K.given sink.new) result) }
+    ensures trial_part { result ≡ Status.WriteFault → IfTrial arguments.now (λ seed bundles.
+        GivesTrialPart seed bundles (K.given sink.old) (K.given sink.new)) }
 
     // However it ends, it leaves the source as it was, and its end is never one of reading.
     ensures reads_nothing { IsTrial (command_of arguments.now) → (S.left source.new ≡ S.left source.old) × (S.faults source.new ≡ S.faults source.old) × EndsTrial result }
@@ -180,9 +175,9 @@ pub fn ia64<S: Source, K: Sink>(
     ensures complete { ¬ Rose (S.faults source.old) (S.faults source.new) → ¬ Rose (K.faults sink.old) (K.faults sink.new) → IsAnswer result ⊎ (result ≡ Status.NoMemory) }
 
     // An input that reads as a program gives what the command makes of it, where neither stream failed and memory didn't run out.
-    ensures served { ¬ Rose (S.faults source.old) (S.faults source.new) → ¬ Rose (K.faults sink.old) (K.faults sink.new) → IfSome (S.left source.old) (λ input. (command : Command) →
-        command_of arguments.now ≡ Some command → is_too_long command input ≡ false → (program : Program) → IsProgramOf command input program →
-        TellsOfProgram result ⊎ (result ≡ Status.NoMemory)) }
+    ensures served { ¬ Rose (S.faults source.old) (S.faults source.new) → ¬ Rose (K.faults sink.old) (K.faults sink.new) →
+        IfSome (S.left source.old) (λ input. IfCommand arguments.now (λ command. is_too_long command input ≡ false →
+        (program : Program) → IsProgramOf command input program → TellsOfProgram result ⊎ (result ≡ Status.NoMemory))) }
 
     // Faults come from the source and the sink alone.
     ensures read_fault { result ≡ Status.ReadFault → Rose (S.faults source.old) (S.faults source.new) }

@@ -1,5 +1,5 @@
 use Rattle.std.proofs.lemmas.Result.{on_ok_weaker}
-use Rattle.ia64_top.specs.Watching.{HaveWatched}
+use Rattle.ia64_top.specs.Runs.{HaveWatched}
 use Rattle.ia64_top.proofs.Running.{of_watch}
 use Rattle.ia64_top.proofs.answer.respond.Goals as goal
 
